@@ -1,0 +1,4 @@
+pub mod Tests
+pub mod Commands
+pub mod Reading
+pub mod Unfinished

@@ -1,0 +1,7 @@
+pub mod Agree
+pub mod Followed
+pub mod Placed
+pub mod Description
+pub mod Apart
+pub mod Whole
+pub mod Answered
