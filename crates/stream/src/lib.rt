@@ -17,11 +17,11 @@ use parts::Awaited;
 use parts::Extent;
 use parts::Kind;
 pub use parts::LineFault;
-use parts::LineFaultDebug;
+pub use parts::LineFaultDebug;
 use parts::Progress;
 pub use parts::Token;
 pub use parts::TokenFault;
-use parts::TokenFaultDebug;
+pub use parts::TokenFaultDebug;
 use std::error::Error;
 use std::fmt;
 
