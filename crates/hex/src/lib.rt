@@ -19,7 +19,9 @@ use std::fmt;
 pub impl fmt::Display for HexFault as HexFaultDisplay {
     fn fmt<W: fmt::Write>(&self, f: &mut fmt::Formatter<W>) -> fmt::Result {
         match self {
-            HexFault::NotHexadecimal => f.write_str("this is not hexadecimal: two digits 0 to 9 or A to F for each byte"),
+            HexFault::NotHexadecimal => f.write_str(
+                "this is not hexadecimal: two digits 0 to 9 or A to F for each byte",
+            ),
             HexFault::OutOfMemory => f.write_str("there is no memory for the bytes"),
         }
     }
@@ -67,5 +69,9 @@ pub fn decode(heap: Global, text: &[u8]) -> Result<Vec<u8>, HexFault>
         bytes.push(value)?;
         rest = tail;
     }
-    if rest.is_empty() { Ok(bytes) } else { Err(HexFault::NotHexadecimal) }
+    if rest.is_empty() {
+        Ok(bytes)
+    } else {
+        Err(HexFault::NotHexadecimal)
+    }
 }

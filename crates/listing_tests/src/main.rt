@@ -103,9 +103,15 @@ fn try_line(rt: &LibcRuntime, stream: &[u8], place: usize, room: usize) -> Resul
         }
     }
     match answer {
-        Ok(Some(n)) => println!(rt, "  line at {place} into {room}: {n} bytes, {changed} changed")?,
+        Ok(Some(n)) => println!(
+            rt,
+            "  line at {place} into {room}: {n} bytes, {changed} changed"
+        )?,
         Ok(None) => println!(rt, "  line at {place} into {room}: none, {changed} changed")?,
-        Err(fault) => println!(rt, "  line at {place} into {room}: {fault}, {changed} changed")?,
+        Err(fault) => println!(
+            rt,
+            "  line at {place} into {room}: {fault}, {changed} changed"
+        )?,
     }
     Ok(())
 }

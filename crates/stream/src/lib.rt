@@ -56,7 +56,12 @@ impl LineFault {
 
 pub impl fmt::Display for TokenFault as TokenFaultDisplay {
     fn fmt<W: fmt::Write>(&self, f: &mut fmt::Formatter<W>) -> fmt::Result {
-        write!(f, "refusal {}: the stream has more than {} bytes", self.number(), STREAM_MAX)
+        write!(
+            f,
+            "refusal {}: the stream has more than {} bytes",
+            self.number(),
+            STREAM_MAX
+        )
     }
 }
 
@@ -66,8 +71,12 @@ pub impl fmt::Display for LineFault as LineFaultDisplay {
     fn fmt<W: fmt::Write>(&self, f: &mut fmt::Formatter<W>) -> fmt::Result {
         match self {
             LineFault::Token(fault) => write!(f, "{fault}"),
-            LineFault::BufferTooShort =>
-                write!(f, "refusal {}: the line's buffer has fewer than {} bytes", self.number(), LINE_MAX),
+            LineFault::BufferTooShort => write!(
+                f,
+                "refusal {}: the line's buffer has fewer than {} bytes",
+                self.number(),
+                LINE_MAX
+            ),
         }
     }
 }
@@ -100,10 +109,8 @@ fn take_byte(awaited: Awaited, b: u8) -> Progress
             0x00 | 0x05 | 0x07 | 0x09..=0x0E | 0x11 | 0x13 | 0x14 | 0x18 | 0x20..=0xFF,
         ) => Progress::Complete,
         (Awaited::Text, _) => Progress::Refused,
-        (
-            Awaited::EscapeCode,
-            0x0E | 0x14 | 0x32 | 0x40 | 0x45..=0x48 | 0x6D | 0x70 | 0xC3,
-        ) => Progress::Complete,
+        (Awaited::EscapeCode, 0x0E | 0x14 | 0x32 | 0x40 | 0x45..=0x48 | 0x6D | 0x70 | 0xC3) =>
+            Progress::Complete,
         (
             Awaited::EscapeCode,
             0x21 | 0x2D | 0x33 | 0x34 | 0x43 | 0x4A | 0x51 | 0x57 | 0x6C | 0x77,
@@ -134,11 +141,20 @@ fn command(start: Awaited, s: &[u8]) -> Extent
     for i in 1..s.len() {
         match take_byte(awaited, s[i]) {
             Progress::More(next) => awaited = next,
-            Progress::Complete => return Extent { kind: Kind::Command, count: i + 1 },
-            Progress::Refused => return Extent { kind: Kind::Refused, count: i + 1 },
+            Progress::Complete => return Extent {
+                kind: Kind::Command,
+                count: i + 1,
+            },
+            Progress::Refused => return Extent {
+                kind: Kind::Refused,
+                count: i + 1,
+            },
         }
     }
-    Extent { kind: Kind::Unfinished, count: s.len() }
+    Extent {
+        kind: Kind::Unfinished,
+        count: s.len(),
+    }
 }
 
 /// How many text bytes follow, up to 16.
@@ -161,12 +177,21 @@ fn first_part(s: &[u8]) -> Extent
     ensures bound { λ r. ⌜ r .count ≤ length (now (s .entry)) ⌝ }
 {
     if is_text_byte(s[0]) {
-        return Extent { kind: Kind::Text, count: text_run(s) };
+        return Extent {
+            kind: Kind::Text,
+            count: text_run(s),
+        };
     }
     match take_byte(Awaited::Text, s[0]) {
         Progress::More(next) => command(next, s),
-        Progress::Complete => Extent { kind: Kind::Control, count: 1 },
-        Progress::Refused => Extent { kind: Kind::Refused, count: 1 },
+        Progress::Complete => Extent {
+            kind: Kind::Control,
+            count: 1,
+        },
+        Progress::Refused => Extent {
+            kind: Kind::Refused,
+            count: 1,
+        },
     }
 }
 
