@@ -13,15 +13,15 @@ use Rattle.std.specs.declared.result.Result.{Result}
 use Rattle.std.specs.declared.result.Result.the-variants.{Ok, Err}
 use Rattle.std.proofs.shelf.Lists.{take-at, append-nil}
 use Rattle.stream.specs.Answers.{too-long}
-use Rattle.stream.specs.Lines.{line-of, with-line, line-answer, line-left}
+use Rattle.stream.specs.Lines.{line-of, too-short, with-line, line-answer, line-left}
 use Rattle.stream.specs.Parts.{Part, part-at}
 use Rattle.listing.specs.Listed.{Listed, ended, one-line, Listing, line-at}
 
 -- what line wrote is the line of the part there
 pub written : (s : List ℕ) (place n : ℕ) (out after : List ℕ) → length out ≡ 134
-    → _≡_ {A = Result (Option ℕ) ℕ} (Ok (Some n)) (line-answer s place (length out)) → after ≡ line-left s place out
+    → _≡_ {A = Result (Option ℕ) ℕ} (Ok (Some n)) (line-answer s place out) → after ≡ line-left s place out
     → (too-long s ≡ false) × (take n after ≡ line-at s place)
-written s place n out after h e k = go (too-long s) (ltb (length out) 134) (part-at s place) refl (ap (λ (m : ℕ). ltb m 134) h) refl e k
+written s place n out after h e k = go (too-long s) (too-short out) (part-at s place) refl (ap (λ (m : ℕ). ltb m 134) h) refl e k
   where
     go : (t u : Bool) (o : Option Part) → too-long s ≡ t → u ≡ false → part-at s place ≡ o
         → _≡_ {A = Result (Option ℕ) ℕ} (Ok (Some n)) (cond t (Err 6) (cond u (Err 5) (Ok (mapped (λ p. length (line-of place p)) o))))

@@ -2,7 +2,7 @@
 //! A row of the table: the stream in hexadecimal, a space, its listing with | for each line's end.
 use hex::HexFaultError;
 use hex::decode;
-use listing::ListingFaultDisplay;
+use listing::ListingFault;
 use listing::ListingFaultError;
 use listing::listing;
 use std::alloc::AllocError;
@@ -11,9 +11,7 @@ use std::error::AnyError;
 use std::io::BufRead;
 use std::io::BufReader;
 use stream::LINE_MAX;
-use stream::LineFaultDisplay;
 use stream::STREAM_MAX;
-use stream::TokenFaultDisplay;
 use stream::line;
 use stream::token;
 
@@ -47,79 +45,60 @@ fn compare_table(rt: &LibcRuntime) -> Result<u32, AnyError> {
             continue;
         }
         if !agrees(rt.alloc(), stream, expected)? {
-            eprintln!(rt, "listed otherwise: {row}")?;
-            return Err("a listing differs from the table".into());
+            rt.eprintln(stream)?;
+            return Err("this stream's listing differs from the table".into());
         }
         rows = rows.saturating_add(1);
     }
     Ok(rows)
 }
 
-fn count_lines(text: &[u8]) -> usize {
-    let mut lines = 0usize;
+fn count(text: &[u8], wanted: u8) -> usize {
+    let mut found = 0usize;
     for c in text {
-        if *c == b'\n' {
-            lines = lines.saturating_add(1);
+        if *c == wanted {
+            found = found.saturating_add(1);
         }
     }
-    lines
+    found
 }
 
-/// What listing answers for a stream of so many text bytes.
-fn try_listing(rt: &LibcRuntime, stream: &[u8]) -> Result<(), AnyError> {
-    let length = stream.len();
-    match listing(rt.alloc(), stream) {
-        Ok(text) => {
-            let lines = count_lines(&text);
-            println!(rt, "{length} bytes: a listing of {lines} lines")?;
-        }
-        Err(fault) => println!(rt, "{length} bytes: no listing, {fault}")?,
-    }
+/// What line answers at a place with a buffer of so many bytes, and how many of these it leaves.
+fn try_line(rt: &LibcRuntime, stream: &[u8], place: usize, room: usize) -> Result<(), AnyError> {
+    let mut out = vec![in rt.alloc(); b'?'; room]?;
+    let (what, number) = match line(stream, place, &mut out) {
+        Ok(Some(length)) => ("length", length),
+        Ok(None) => ("nothing", 0),
+        Err(fault) => ("refusal", usize::from(fault.number())),
+    };
+    let left = count(&out, b'?');
+    println!(
+        rt,
+        "  line at {place} into {room}: {what} {number}, leaves {left}"
+    )?;
     Ok(())
 }
 
 /// What token answers at a place.
 fn try_token(rt: &LibcRuntime, stream: &[u8], place: usize) -> Result<(), AnyError> {
-    match token(stream, place) {
-        Ok(Some(part)) => {
-            let letter = char::from(part.letter());
-            let count = part.bytes().len();
-            println!(rt, "  token at {place}: {letter} of {count}")?;
-        }
-        Ok(None) => println!(rt, "  token at {place}: none")?,
-        Err(fault) => println!(rt, "  token at {place}: {fault}")?,
-    }
-    Ok(())
-}
-
-/// What line answers at a place with a buffer of so many bytes, and how many of these it changes.
-fn try_line(rt: &LibcRuntime, stream: &[u8], place: usize, room: usize) -> Result<(), AnyError> {
-    let mut out = vec![in rt.alloc(); b'?'; room]?;
-    let answer = line(stream, place, &mut out);
-    let mut changed = 0usize;
-    for c in out.iter() {
-        if *c != b'?' {
-            changed = changed.saturating_add(1);
-        }
-    }
-    match answer {
-        Ok(Some(n)) => println!(
-            rt,
-            "  line at {place} into {room}: {n} bytes, {changed} changed"
-        )?,
-        Ok(None) => println!(rt, "  line at {place} into {room}: none, {changed} changed")?,
-        Err(fault) => println!(
-            rt,
-            "  line at {place} into {room}: {fault}, {changed} changed"
-        )?,
-    }
+    let (what, number) = match token(stream, place) {
+        Ok(Some(part)) => (char::from(part.letter()), part.bytes().len()),
+        Ok(None) => ('-', 0),
+        Err(fault) => ('!', usize::from(fault.number())),
+    };
+    println!(rt, "  token at {place}: {what} {number}")?;
     Ok(())
 }
 
 /// All calls on a stream of so many text bytes, at its first and last place and at its end.
 fn try_length(rt: &LibcRuntime, length: usize) -> Result<(), AnyError> {
     let stream = vec![in rt.alloc(); b'A'; length]?;
-    try_listing(rt, &stream)?;
+    let (what, number) = match listing(rt.alloc(), &stream) {
+        Ok(text) => ("lines", count(&text, b'\n')),
+        Err(ListingFault::Line(fault)) => ("refusal", usize::from(fault.number())),
+        Err(ListingFault::OutOfMemory) => ("no memory", 0),
+    };
+    println!(rt, "{length} bytes: {what} {number}")?;
     for place in [0, length.saturating_sub(1), length] {
         try_token(rt, &stream, place)?;
         try_line(rt, &stream, place, LINE_MAX)?;

@@ -5,14 +5,13 @@ use mathlib.Core.Bool.{Bool, true, false, cond}
 use mathlib.Core.List.{List, [], _∷_, _++_}
 use native.Mathlib.Omega.{arith}
 use native.Mathlib.Nat.{zero-add}
-use lib.Dec.{ltb}
 use lib.ListN.{length, take, drop}
 use Rattle.std.specs.declared.option.Option.{Option}
 use Rattle.std.specs.declared.option.Option.the-variants.{Some, None}
 use Rattle.std.specs.declared.result.Result.{Result}
 use Rattle.std.specs.declared.result.Result.the-variants.{Ok, Err}
 use Rattle.std.proofs.shelf.Lists.{length-drop}
-use Rattle.std.proofs.shelf.Tests.{lt-ltb, le-ltb, cond-true, cond-false}
+use Rattle.std.proofs.shelf.Tests.{cond-true, cond-false}
 use Rattle.reading.specs.Reading.{Meaning, more, done, refused, text, meaning, is-text}
 use Rattle.reading.proofs.Within.{Moves, moves}
 use Rattle.stream.specs.declared.parts.Awaited.{Awaited}
@@ -23,7 +22,7 @@ use Rattle.stream.specs.declared.parts.TokenFault.the-variants.{StreamTooLong}
 use Rattle.stream.specs.Answers.{token-fault-number, too-long, token-answer}
 use Rattle.stream.specs.Awaited.{awaited, outline, follow}
 use Rattle.stream.specs.Laws.{Sized}
-use Rattle.stream.specs.Lines.{placed, line-text, line-of, line-answer, line-left}
+use Rattle.stream.specs.Lines.{placed, too-short, line-text, line-of, line-answer, line-left}
 use Rattle.stream.specs.Parts.{first, Part, a-part, part, part-at, letter}
 use Rattle.stream.proofs.Agree.{agree}
 use Rattle.stream.proofs.Description.{by-first, first-command}
@@ -42,13 +41,13 @@ begins b bs a e k = go (meaning text b) (moves text b tt) k ∙ sym (first-comma
     go (refused why q) w k = let z : _≡_ {A = ℕ} 0 1 = cc in absurd (omega arith)
 
 -- token: refused, nothing, a part
-pub long-answer : (s : List ℕ) (place : ℕ) → 65536 < length s → _≡_ {A = Answer} (Err 6) (token-answer s place)
-long-answer s place h = sym (cond-true (too-long s) (Err 6) (Ok (part-at s place)) (lt-ltb 65536 (length s) h))
+pub long-answer : (s : List ℕ) (place : ℕ) → too-long s ≡ true → _≡_ {A = Answer} (Err 6) (token-answer s place)
+long-answer s place h = sym (cond-true (too-long s) (Err 6) (Ok (part-at s place)) h)
 
-short-answer : (s : List ℕ) (place : ℕ) (o : Option Part) → length s ≤ 65536 → part-at s place ≡ o → _≡_ {A = Answer} (Ok o) (token-answer s place)
-short-answer s place o h e = sym (cond-false (too-long s) (Err 6) (Ok (part-at s place)) (le-ltb 65536 (length s) h) ∙ ap Ok e)
+short-answer : (s : List ℕ) (place : ℕ) (o : Option Part) → too-long s ≡ false → part-at s place ≡ o → _≡_ {A = Answer} (Ok o) (token-answer s place)
+short-answer s place o h e = sym (cond-false (too-long s) (Err 6) (Ok (part-at s place)) h ∙ ap Ok e)
 
-pub none-answer : (s : List ℕ) (place : ℕ) → length s ≤ 65536 → length s ≤ place → _≡_ {A = Answer} (Ok None) (token-answer s place)
+pub none-answer : (s : List ℕ) (place : ℕ) → too-long s ≡ false → length s ≤ place → _≡_ {A = Answer} (Ok None) (token-answer s place)
 none-answer s place h k = short-answer s place None h (at-end s place k)
 
 -- what the code has found is the part there
@@ -56,7 +55,7 @@ pub found-part : (s rest : List ℕ) (place n : ℕ) (e : Extent) (p : Part) →
 found-part s rest place n e p r x z y =
     y ∙ ap (λ (n : ℕ). a-part (e .kind) (take n rest)) z ∙ ap (λ (e : Extent). a-part (e .kind) (take (e .count) rest)) x ∙ ap part r
 
-pub some-answer : (s : List ℕ) (place : ℕ) (p : Part) → length s ≤ 65536 → place < length s → p ≡ part (drop place s) → _≡_ {A = Answer} (Ok (Some p)) (token-answer s place)
+pub some-answer : (s : List ℕ) (place : ℕ) (p : Part) → too-long s ≡ false → place < length s → p ≡ part (drop place s) → _≡_ {A = Answer} (Ok (Some p)) (token-answer s place)
 some-answer s place p h k e = short-answer s place (Some p) h (before-end s place k ∙ ap Some (sym e))
 
 pub some-within : (s : List ℕ) (place : ℕ) (p : Part) → place < length s → p ≡ part (drop place s) → Sized p × (place + length (p .bytes) ≤ length s)
@@ -87,19 +86,18 @@ some-sized s place p e =
     subst Sized (h .1) (sized (drop place s) (left s place (h .0)))
 
 module _ (s : List ℕ) (place : ℕ) (out : List ℕ) where
-  pub long-line : too-long s ≡ true → (_≡_ {A = Result (Option ℕ) ℕ} (Err 6) (line-answer s place (length out))) × (out ≡ line-left s place out)
+  pub long-line : too-long s ≡ true → (_≡_ {A = Result (Option ℕ) ℕ} (Err 6) (line-answer s place out)) × (out ≡ line-left s place out)
   long-line h = (rw h, rw h)
 
-  pub some-line : (p : Part) (bytes : List ℕ) (l : ℕ) → _≡_ {A = Answer} (Ok (Some p)) (token-answer s place) → 134 ≤ length out → bytes ≡ p .bytes → l ≡ letter (p .kind)
-      → (_≡_ {A = Result (Option ℕ) ℕ} (Ok (Some (length (line-text place l bytes)))) (line-answer s place (length out))) × (placed 0 (line-text place l bytes) out ≡ line-left s place out)
+  pub some-line : (p : Part) (bytes : List ℕ) (l : ℕ) → _≡_ {A = Answer} (Ok (Some p)) (token-answer s place) → too-short out ≡ false → bytes ≡ p .bytes → l ≡ letter (p .kind)
+      → (_≡_ {A = Result (Option ℕ) ℕ} (Ok (Some (length (line-text place l bytes)))) (line-answer s place out)) × (placed 0 (line-text place l bytes) out ≡ line-left s place out)
   some-line p bytes l e h b c =
       let f = from-ok s place (Some p) e in
       let short : too-long s ≡ false = f .0 in
       let is : part-at s place ≡ Some p = f .1 in
-      let there : ltb (length out) 134 ≡ false = le-ltb (length out) 134 h in
       let same : line-text place l bytes ≡ line-of place p = ap (line-text place l) b ∙ ap (λ (l : ℕ). line-text place l (p .bytes)) c in (
-        ap (λ (x : List ℕ). Ok (Some (length x))) same ∙ sym (rw (short, there, is)),
-        ap (λ (x : List ℕ). placed 0 x out) same ∙ ap (λ (n : ℕ). line-of place p ++ drop n out) (zero-add (length (line-of place p))) ∙ sym (rw (short, there, is)),
+        ap (λ (x : List ℕ). Ok (Some (length x))) same ∙ sym (rw (short, h, is)),
+        ap (λ (x : List ℕ). placed 0 x out) same ∙ ap (λ (n : ℕ). line-of place p ++ drop n out) (zero-add (length (line-of place p))) ∙ sym (rw (short, h, is)),
       )
 
 pub fault-is-6 : (f : TokenFault) → token-fault-number f ≡ 6

@@ -44,15 +44,19 @@ line-text place l bs = (head place l ++ joined hex bs) ++ (0x0A ∷ [])
 abbrev pub line-of : ℕ → Part → List ℕ
 line-of place p = line-text place (letter (p .kind)) (p .bytes)
 
+-- fewer bytes than the longest line has
+abbrev pub too-short : List ℕ → Bool
+too-short out = ltb (length out) 134
+
 -- an answer, by lengths and numbers
 abbrev pub line-told : Result (Option ℕ) LineFault → Result (Option ℕ) ℕ
 line-told (Ok written) = Ok written
 line-told (Err fault) = Err (line-fault-number fault)
 
 -- 6 for a stream that is too long, then 5 for a buffer below 134 bytes, else the length of the next part's line, if there is one
-abbrev pub line-answer : List ℕ → ℕ → ℕ → Result (Option ℕ) ℕ
-line-answer s place room =
-    cond (too-long s) (Err 6) (cond (ltb room 134) (Err 5) (Ok (mapped (λ p. length (line-of place p)) (part-at s place))))
+abbrev pub line-answer : List ℕ → ℕ → List ℕ → Result (Option ℕ) ℕ
+line-answer s place out =
+    cond (too-long s) (Err 6) (cond (too-short out) (Err 5) (Ok (mapped (λ p. length (line-of place p)) (part-at s place))))
 
 -- a buffer with the line of a part in front, the rest as found
 abbrev pub with-line : ℕ → Option Part → List ℕ → List ℕ
@@ -61,7 +65,7 @@ with-line place (Some p) out = line-of place p ++ drop (length (line-of place p)
 
 -- what the buffer holds at the end
 abbrev pub line-left : List ℕ → ℕ → List ℕ → List ℕ
-line-left s place out = cond (too-long s) out (cond (ltb (length out) 134) out (with-line place (part-at s place) out))
+line-left s place out = cond (too-long s) out (cond (too-short out) out (with-line place (part-at s place) out))
 
 -- a line has at most 134 bytes
 abbrev pub Fits-a-line : Result (Option ℕ) LineFault → Type 0

@@ -5,10 +5,10 @@ ghost use lib.ListN.{length, drop};
 ghost use Rattle.std.specs.Joined.{joined};
 ghost use Rattle.std.specs.shelf.Lists.{leading};
 ghost use Rattle.reading.specs.Reading.{is-text};
-ghost use Rattle.stream.specs.Answers.{part-of, token-fault-number, token-answer, token-told, Within};
+ghost use Rattle.stream.specs.Answers.{part-of, token-fault-number, token-answer, token-told, too-long, Within};
 ghost use Rattle.stream.specs.Awaited.{progress, follow};
 ghost use Rattle.stream.specs.Laws.{Laws};
-ghost use Rattle.stream.specs.Lines.{hex, hex-digit, line-answer, line-left, line-fault-number, line-text, line-told, placed, Fits-a-line};
+ghost use Rattle.stream.specs.Lines.{hex, hex-digit, line-answer, line-left, line-fault-number, line-text, line-told, placed, too-short, Fits-a-line};
 ghost use Rattle.stream.specs.Parts.{letter, a-part, first};
 
 mod parts;
@@ -86,8 +86,8 @@ pub impl Error for LineFault as LineFaultError {}
 pub impl From<TokenFault> for LineFault as LineFaultFrom {
     ghost converts = { λ fault r. line-fault-number r ≡ token-fault-number fault };
 
-    fn from(fault: TokenFault) -> LineFault {
-        LineFault::Token(fault)
+    fn from(token: TokenFault) -> LineFault {
+        LineFault::Token(token)
     }
 }
 
@@ -207,13 +207,19 @@ fn token_of(kind: Kind, bytes: &[u8]) -> Token<'_>
     }
 }
 
+fn is_too_long(stream: &[u8]) -> bool
+    ensures { λ r. ⌜ r ≡ too-long (now (stream .entry)) ⌝ }
+{
+    stream.len() > STREAM_MAX
+}
+
 /// The next part of a stream from a place, begun as text; none from the stream's end on.
 pub fn token(stream: &[u8], place: usize) -> Result<Option<Token<'_>>, TokenFault>
     ensures answer { λ r. ⌜ token-told r ≡ token-answer (now (stream .entry)) place ⌝ }
     ensures within { λ r. ⌜ Within (now (stream .entry)) place r ⌝ }
     ensures laws { λ _. ⌜ Laws (now (stream .entry)) place ⌝ }
 {
-    if stream.len() > STREAM_MAX {
+    if is_too_long(stream) {
         return Err(TokenFault::StreamTooLong);
     }
     if place >= stream.len() {
@@ -304,14 +310,20 @@ fn put_line(out: &mut [u8], place: usize, letter: u8, bytes: &[u8]) -> usize
     end + 1
 }
 
+fn is_too_short(out: &[u8]) -> bool
+    ensures { λ r. ⌜ r ≡ too-short (now (out .entry)) ⌝ }
+{
+    out.len() < LINE_MAX
+}
+
 /// Writes the line of the next part of a stream from a place; none from the stream's end on.
 pub fn line(stream: &[u8], place: usize, out: &mut [u8]) -> Result<Option<usize>, LineFault>
-    ensures answer { λ r. ⌜ line-told r ≡ line-answer (now (stream .entry)) place (length (now (out .entry))) ⌝ }
+    ensures answer { λ r. ⌜ line-told r ≡ line-answer (now (stream .entry)) place (now (out .entry)) ⌝ }
     ensures after { λ _. ⌜ now (out .exit) ≡ line-left (now (stream .entry)) place (now (out .entry)) ⌝ }
     ensures fits { λ r. ⌜ Fits-a-line r ⌝ }
 {
     let found = token(stream, place)?;
-    if out.len() < LINE_MAX {
+    if is_too_short(out) {
         return Err(LineFault::BufferTooShort);
     }
     let Some(token) = found else {

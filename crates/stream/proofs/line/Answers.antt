@@ -8,6 +8,7 @@ use Rattle.std.specs.declared.option.Option.the-variants.{Some}
 use Rattle.std.specs.declared.result.Result.{Result}
 use Rattle.std.specs.declared.result.Result.the-variants.{Ok, Err}
 use Rattle.std.proofs.shelf.Results.{err-from-errBy}
+use Rattle.std.proofs.shelf.Tests.{ltb-false}
 use Rattle.stream.specs.declared.parts.LineFault.{LineFault}
 use Rattle.stream.specs.declared.parts.Token.{Token}
 use Rattle.stream.specs.Answers.{part-of, token-answer}
@@ -30,14 +31,14 @@ returns-in-Break-found c =
 pub put-line-requires : need.put-line-requires
 put-line-requires c κs =
     let h = some-sized (c .args .stream .now) (c .args .place) (part-of (c .in-Some .token)) (found c) in
-    omega (arith, ap length (c .bytes .ensures))
+    omega (arith, ap length (c .bytes .ensures), ltb-false (length (c .args .out .now)) 134 (sym (c .is-too-short .ensures) ∙ c .if-is-too-short .left))
 
 pub returns : need.returns
 returns c =
     let t = ap (λ (o : Option Token). Ok (mapped part-of o)) (sym (c .in-Some .is)) ∙ c .in-Continue-found .ensures tt .answer in
     let z = some-sized (c .args .stream .now) (c .args .place) (part-of (c .in-Some .token)) t in
     let l = some-line (c .args .stream .now) (c .args .place) (c .args .out .now) (part-of (c .in-Some .token)) (c .bytes .result .now) (c .letter .result) t
-    (c .if-out-lt-LINE-MAX .left) (c .bytes .ensures) (c .letter .ensures) in
+    (sym (c .is-too-short .ensures) ∙ c .if-is-too-short .left) (c .bytes .ensures) (c .letter .ensures) in
     record {
       answer = ap (λ (n : ℕ). Ok (Some n)) (c .put-line .ensures .len) ∙ l .0;
       after = c .put-line .ensures .after ∙ l .1;
