@@ -19,7 +19,6 @@ use std::error::Error;
 use std::fmt;
 use stream::LINE_MAX;
 use stream::LineFault;
-use stream::LineFaultDisplay;
 use stream::TokenFault;
 use stream::line;
 use stream::token;
@@ -27,7 +26,12 @@ use stream::token;
 pub impl fmt::Display for ListingFault as ListingFaultDisplay {
     fn fmt<W: fmt::Write>(&self, f: &mut fmt::Formatter<W>) -> fmt::Result {
         match self {
-            ListingFault::Line(fault) => write!(f, "{fault}"),
+            ListingFault::Line(LineFault::Token(TokenFault::StreamTooLong)) => f.write_str(
+                "refusal 6: the stream has more than 65536 bytes",
+            ),
+            ListingFault::Line(LineFault::BufferTooShort) => f.write_str(
+                "refusal 5: the line's buffer has fewer than 134 bytes",
+            ),
             ListingFault::OutOfMemory => f.write_str("there is no memory for the listing"),
         }
     }

@@ -22,8 +22,6 @@ use parts::Progress;
 pub use parts::Token;
 pub use parts::TokenFault;
 pub use parts::TokenFaultDebug;
-use std::error::Error;
-use std::fmt;
 
 /// The most bytes of a stream.
 pub const STREAM_MAX: usize = 65_536;
@@ -53,35 +51,6 @@ impl LineFault {
         }
     }
 }
-
-pub impl fmt::Display for TokenFault as TokenFaultDisplay {
-    fn fmt<W: fmt::Write>(&self, f: &mut fmt::Formatter<W>) -> fmt::Result {
-        write!(
-            f,
-            "refusal {}: the stream has more than {} bytes",
-            self.number(),
-            STREAM_MAX
-        )
-    }
-}
-
-pub impl Error for TokenFault as TokenFaultError {}
-
-pub impl fmt::Display for LineFault as LineFaultDisplay {
-    fn fmt<W: fmt::Write>(&self, f: &mut fmt::Formatter<W>) -> fmt::Result {
-        match self {
-            LineFault::Token(fault) => write!(f, "{fault}"),
-            LineFault::BufferTooShort => write!(
-                f,
-                "refusal {}: the line's buffer has fewer than {} bytes",
-                self.number(),
-                LINE_MAX
-            ),
-        }
-    }
-}
-
-pub impl Error for LineFault as LineFaultError {}
 
 pub impl From<TokenFault> for LineFault as LineFaultFrom {
     ghost converts = { λ fault r. line-fault-number r ≡ token-fault-number fault };
