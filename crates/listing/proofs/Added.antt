@@ -15,6 +15,7 @@ use Rattle.std.proofs.shelf.Lists.{take-at, append-nil}
 use Rattle.stream.specs.Answers.{too-long}
 use Rattle.stream.specs.Lines.{line-of, too-short, with-line, line-answer, line-left}
 use Rattle.stream.specs.Parts.{Part, part-at}
+use Rattle.stream.proofs.Whole.{some-same, no-part}
 use Rattle.listing.specs.Listed.{Listed, ended, one-line, Listing, line-at}
 
 -- what line wrote is the line of the part there
@@ -42,12 +43,6 @@ pub added : (s : List ℕ) (place : ℕ) (p : Part) (old new : List ℕ) → par
 added s place p old new e k inv rest h =
     let is : new ≡ old ++ line-of place p = k ∙ ap (λ (o : Option Part). old ++ elim o [ Some p ↦ line-of place p | None ↦ [] ]) e in
     subst (Listed s 0) (sym (ap (λ (l : List ℕ). l ++ rest) is ∙ append-assoc old (line-of place p) rest)) (inv (line-of place p ++ rest) (one-line rest e h))
-
-some-same : (p q : Part) (o : Option Part) → o ≡ Some p → o ≡ Some q → p ≡ q
-some-same p q o e k = cc
-
-no-part : (p : Part) (o : Option Part) → o ≡ Some p → o ≡ None → ⊥
-no-part p o e k = let z : _≡_ {A = ℕ} 0 1 = cc in omega arith
 
 -- there is one listing
 one-listing : (s : List ℕ) (place : ℕ) (t u : List ℕ) → Listed s place t → Listed s place u → t ≡ u

@@ -134,10 +134,10 @@ exists s (suc fuel) place h = go (leb (length s) place) refl (λ k. exists s fue
     go true e f = ([], none (at-end s place (leb-true (length s) place e)))
     go false e f = let r = f (leb-false (length s) place e) in (part (drop place s) ∷ r .0, next (before-end s place (leb-false (length s) place e)) (r .1))
 
-some-same : (p q : Part) (o : Option Part) → o ≡ Some p → o ≡ Some q → p ≡ q
+pub some-same : (p q : Part) (o : Option Part) → o ≡ Some p → o ≡ Some q → p ≡ q
 some-same p q o e k = cc
 
-no-part : (p : Part) (o : Option Part) → o ≡ Some p → o ≡ None → ⊥
+pub no-part : (p : Part) (o : Option Part) → o ≡ Some p → o ≡ None → ⊥
 no-part p o e k = let z : _≡_ {A = ℕ} 0 1 = cc in omega arith
 
 one-way : (s : List ℕ) (place : ℕ) (ps qs : List Part) → Parts s place ps → Parts s place qs → ps ≡ qs
