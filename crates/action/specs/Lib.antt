@@ -1,0 +1,5 @@
+pub mod Tests
+pub mod Columns
+pub mod Meanings
+pub mod Judging
+pub mod Owed

@@ -1,0 +1,3 @@
+mod Feeds
+mod Rooms
+mod Wraps
