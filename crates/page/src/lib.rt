@@ -1,0 +1,3 @@
+//! A page picture: the mechanism that writes each row into a buffer.
+pub mod page;
+mod picture;

@@ -1,0 +1,4 @@
+pub mod Paper
+pub mod Replies
+pub mod Plates
+pub mod Lawful
