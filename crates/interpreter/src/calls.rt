@@ -1,3 +1,4 @@
+//! The calls of an interpreter.
 ghost use mathlib.Core.Path.{_≡_};
 ghost use mathlib.Core.List.{[]};
 ghost use Prim.Native.Nat.{_<_};

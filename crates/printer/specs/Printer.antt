@@ -18,6 +18,7 @@ use Rattle.action.specs.declared.owed.Owed.{Owed}
 use Rattle.settings.specs.Settings.{settings-of}
 use Rattle.printer.specs.declared.Printer.{Printer}
 
+-- its settings and its open row
 abbrev pub printer-of : Printer → job.Printer
 printer-of p = record { settings = settings-of (p .settings); row = columns (p .row) }
 

@@ -11,6 +11,7 @@ use Rattle.job.specs.Row.{fits, closing}
 use Rattle.job.specs.Effects.{Effect}
 use Rattle.job.specs.Lines.{put}
 
+-- a space that is not underlined
 abbrev pub space : Printer → Effect
 space = put false 0x20
 

@@ -1,5 +1,4 @@
 //! The printer: its settings, its open row, and what each command does to them and orders.
-
 mod commands;
 mod feeding;
 mod ordering;

@@ -1,3 +1,4 @@
+//! A new printer, and its settings.
 ghost use mathlib.Core.Path.{_≡_};
 ghost use Rattle.job.specs.Invariants.{Settings-hold};
 ghost use Rattle.job.specs.Printer.{new-printer-at};

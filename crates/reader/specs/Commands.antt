@@ -11,6 +11,7 @@ use Rattle.reader.specs.declared.command.Command.the-variants.{Idle, Print, Se
 abbrev pub parameters-of : BarParameters → List ℕ
 parameters-of p = p .kind ∷ p .width ∷ p .height ∷ p .shown ∷ []
 
+-- the command that the code's command stands for
 abbrev pub command-of : Command → table.Command
 command-of Idle = table.idle
 command-of (Print byte) = table.print (byte .code)

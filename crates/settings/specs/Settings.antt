@@ -5,6 +5,7 @@ use Rattle.job.specs.Printer as job
 use Rattle.reader.specs.Short.{listed}
 use Rattle.settings.specs.declared.Settings.{Settings}
 
+-- the settings that the code's settings stand for
 abbrev pub settings-of : Settings → job.Settings
 settings-of s = record {
   attributes = s .attributes;

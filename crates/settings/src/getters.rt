@@ -1,3 +1,4 @@
+//! What the settings are.
 ghost use mathlib.Core.Path.{_≡_};
 ghost use Prim.Native.Nat.{_≤_};
 ghost use Rattle.job.specs.Lines.{lines-to-page, lines-to-stop};

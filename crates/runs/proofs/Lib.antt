@@ -1,0 +1,12 @@
+pub mod Outcomes
+pub mod Steps
+pub mod Counts
+pub mod Going-on
+pub mod Telling
+pub mod Doing
+pub mod Exits
+pub mod Settling
+pub mod Courses
+pub mod One-end
+pub mod Standing
+pub mod Breaking

@@ -1,0 +1,11 @@
+pub mod Outcomes
+pub mod Count
+pub mod Calls
+pub mod Choices
+pub mod CountLaws
+pub mod Offers
+pub mod Feeds
+pub mod FeedLaws
+pub mod Stands
+pub mod EveryRun
+pub mod Breaks
