@@ -1,4 +1,6 @@
 //! What the station is ordered to do, in fixed memory: actions, the row that is being filled, and what is owed to the mechanism.
+#![tactic(auto)]
+
 pub mod actions;
 pub mod bars;
 mod columns;

@@ -1,4 +1,6 @@
 //! The normal text of an action, written into a buffer.
+#![tactic(auto)]
+
 mod fixed_texts;
 pub mod needs;
 mod put;

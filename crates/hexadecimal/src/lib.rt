@@ -1,4 +1,6 @@
 //! Bytes written in hexadecimal, as tests and scripts have them: two digits each, 0 to 9 and A to F, nothing between them.
+#![tactic(auto)]
+
 ghost use Rattle.std.specs.Prelude.{◌≡◌, ◌<◌, ◌++◌, Some, MatchResult};
 ghost use Rattle.hexadecimal.specs.Digits.{byte_value, digit_of, digit_value, decoded, encoded, EncodesBack, Undecoded};
 ghost use Rattle.hexadecimal.specs.declared.fault.HexFault.TheVariants.{OutOfMemory};

@@ -1,4 +1,6 @@
 //! The interpreter of a ticket stream: it takes the stream byte by byte, in fixed memory, and owes what the stream orders.
+#![tactic(auto)]
+
 mod calls;
 
 use action::owed::Owed;

@@ -1,5 +1,7 @@
 //! Compares how many commands of a stream are refused with a table on standard input, and tries places of refused commands.
 //! A row of the table: the stream in hexadecimal, its normal text in hexadecimal or - for none, how many commands are refused.
+#![tactic(auto)]
+
 use anyhow::anyhow;
 use hexadecimal::decode;
 use interpreter::{Interpreter, Taken};

@@ -1,4 +1,6 @@
 //! Lists the stream on standard input: a line for each part, with its place, its kind and its bytes.
+#![tactic(auto)]
+
 use anyhow::anyhow;
 use listing::listing;
 use std::env;

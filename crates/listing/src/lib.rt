@@ -1,4 +1,6 @@
 //! The whole listing of a stream.
+#![tactic(auto)]
+
 ghost use Rattle.std.specs.Prelude.{◌≡◌, false, ◌++◌, MatchResult};
 ghost use Rattle.stream.specs.Answers.{too_long};
 ghost use Rattle.stream.specs.declared.parts.LineFault.TheVariants.{Token};

@@ -1,5 +1,7 @@
 //! Compares listings with a table on standard input, and tries the longest streams and the shortest buffers.
 //! A row of the table: the stream in hexadecimal, a space, its listing with | for each line's end.
+#![tactic(auto)]
+
 use anyhow::anyhow;
 use hexadecimal::decode;
 use listing::{ListingFault, listing};

@@ -1,4 +1,6 @@
 //! What carries actions out: one interface for every mechanism, and the parts that mechanisms share.
+#![tactic(auto)]
+
 pub mod admission;
 pub mod buffers;
 pub mod counts;

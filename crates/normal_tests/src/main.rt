@@ -2,6 +2,8 @@
 //! A row of three words: a stream, its normal text, and how many commands are passed over.
 //! A row of five or six: a stream, a buffer's length, what is written into it, how many commands are passed over, and the outcome,
 //! `ok` or `held` and a number. Bytes are in hexadecimal, - for none.
+#![tactic(auto)]
+
 mod tickets;
 
 use crate::tickets::show_tickets;

@@ -1,4 +1,6 @@
 //! Writes the normal text of the stream on standard input.
+#![tactic(auto)]
+
 use anyhow::anyhow;
 use reading::Refusal;
 use report::reporting::make_report;

@@ -1,4 +1,6 @@
 //! The printer: its settings, its open row, and what each command does to them and orders.
+#![tactic(auto)]
+
 mod commands;
 mod feeding;
 mod ordering;

@@ -1,4 +1,6 @@
 //! The reader of a ticket stream: what each byte means, by what is being read.
+#![tactic(auto)]
+
 pub mod command;
 pub mod reading;
 pub mod short;

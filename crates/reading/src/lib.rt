@@ -1,5 +1,7 @@
 //! The command table of the ticket station: what each byte of a stream means.
 //! The definitions stand in specs/; here are the types that they share with the code, and the laws of reading.
+#![tactic(auto)]
+
 ghost use Rattle.std.specs.Prelude.{◌≡◌};
 ghost use Rattle.reading.specs.Reading.{refusal_number};
 ghost use Rattle.reading.specs.Unfinished.{UnfinishedCommandsAreKept};

@@ -1,4 +1,6 @@
 //! A stream's job for people: the text of each action on a line of its own, and the commands that are refused.
+#![tactic(auto)]
+
 mod fault;
 mod lines;
 pub mod reporting;

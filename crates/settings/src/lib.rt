@@ -1,4 +1,6 @@
 //! The printer's settings, always within their bounds.
+#![tactic(auto)]
+
 ghost use Rattle.std.specs.Prelude.{◌≡◌, ◌+◌, ◌<◌, ◌≤◌, true};
 ghost use Rattle.job.specs.Changes.{rising};
 ghost use Rattle.reading.specs.Tests.{between, every};

@@ -1,4 +1,6 @@
 //! A station to try: plays the calls of a script on standard input, and prints each with its answer and the state after it.
+#![tactic(auto)]
+
 mod script;
 mod show;
 

@@ -1,4 +1,6 @@
 //! The parts of a stream, one at a time from any place, and their lines in a listing.
+#![tactic(auto)]
+
 ghost use Rattle.std.specs.Prelude.{◌≡◌, ◌+◌, ◌*◌, ◌%◌, ◌<◌, ◌≤◌, min, length, drop};
 ghost use Rattle.std.specs.List.{flat_map, prefix_len};
 ghost use Rattle.reading.specs.Reading.{is_text};

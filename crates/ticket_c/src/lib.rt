@@ -1,4 +1,6 @@
 //! Calls for programs in C or Rust that link the station's static library.
+#![tactic(auto)]
+
 use interpreter::Interpreter;
 use mechanism::mechanism::Mechanism;
 use normal::normalise::normalise;

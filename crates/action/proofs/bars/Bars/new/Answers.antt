@@ -5,7 +5,4 @@ use Rattle.action.proofs.bars.Bars.new.Goals as goal
 
 pub invariant_of-result : goal.invariant_of-result
 invariant_of-result c =
-    let v = sym c.in-Accepted.ensures in (
-      accepted_short (Some c.in-Some.known) c.args.string.now v,
-      (∣ accepted_orderable c.in-Some.known c.args.size c.args.shown c.args.string.now _ c.copied.ensures v ∣₁, tt),
-    )
+    let v = sym c.in-Accepted.ensures in record { within = accepted_short (Some c.in-Some.known) c.args.string.now v; ok = ∣ accepted_orderable c.in-Some.known c.args.size c.args.shown c.args.string.now _ c.copied.ensures v ∣₁ }

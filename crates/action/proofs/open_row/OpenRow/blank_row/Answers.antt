@@ -8,16 +8,7 @@ use Rattle.job.proofs.Columns.{laid_blanks}
 use Rattle.action.proofs.open_row.OpenRow.blank_row.Goals as goal
 
 pub invariant_of-result : goal.invariant_of-result
-invariant_of-result c = (
-  refl,
-  (
-    c.requires,
-    (
-      ∣ subst (λ (x : List Cell). LaidOut TextCharacter x) (sym (take-replicate c.args.len 48 Blank c.requires)) (laid_blanks c.args.len) ∣₁,
-      tt,
-    ),
-  ),
-)
+invariant_of-result c = record { sized = refl; within = c.requires; laid = ∣ subst (λ (x : List Cell). LaidOut TextCharacter x) (sym (take-replicate c.args.len 48 Blank c.requires)) (laid_blanks c.args.len) ∣₁ }
 
 pub returns : goal.returns
 returns c = take-replicate c.args.len 48 Blank c.requires

@@ -9,7 +9,7 @@ pub invariant_of-self : goal.invariant_of-self
 invariant_of-self c =
     let r = c.args.self.now in
     let h : r.len < length r.cells = omega (arith, c.requires, r.sized) in
-    (length-set r.cells r.len Blank ∙ r.sized, (omega (arith, c.requires), (laid_more (take r.len r.cells) (Blank ∷ []) (take (r.len + 1) (set r.cells r.len Blank)) r.laid (blank none) (take_more_set r.cells r.len Blank h), tt)))
+    record { sized = length-set r.cells r.len Blank ∙ r.sized; within = omega (arith, c.requires); laid = laid_more (take r.len r.cells) (Blank ∷ []) (take (r.len + 1) (set r.cells r.len Blank)) r.laid (blank none) (take_more_set r.cells r.len Blank h) }
 
 pub returns : goal.returns
 returns c = search (rules, take_more_set)

@@ -6,14 +6,14 @@ invariant_of-self c =
     let r = c.args.self.now in
     let t = c.if-not-is_text.ensures in
     let p = put_wide r c.args.code _ c.args.attributes t c.width.ensures c.if-self-width-gt48.false c.if-attributes.true in
-    (p.sized, (p.within, (put_laid r c.args.code _ c.args.attributes t c.width.ensures c.if-self-width-gt48.false _ _ p, tt)))
+    record { sized = p.sized; within = p.within; laid = put_laid r c.args.code _ c.args.attributes t c.width.ensures c.if-self-width-gt48.false _ _ p }
 
 pub invariant_of-self-else-attributes : goal.invariant_of-self-else-attributes
 invariant_of-self-else-attributes c =
     let r = c.args.self.now in
     let t = c.if-not-is_text.ensures in
     let p = put_narrow r c.args.code _ c.args.attributes t c.width.ensures c.if-self-width-gt48.false c.if-attributes.false in
-    (p.sized, (p.within, (put_laid r c.args.code _ c.args.attributes t c.width.ensures c.if-self-width-gt48.false _ _ p, tt)))
+    record { sized = p.sized; within = p.within; laid = put_laid r c.args.code _ c.args.attributes t c.width.ensures c.if-self-width-gt48.false _ _ p }
 
 pub returns-then-attributes : goal.returns-then-attributes
 returns-then-attributes c =

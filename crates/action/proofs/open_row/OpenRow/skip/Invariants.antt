@@ -4,4 +4,4 @@ use Rattle.action.specs.Columns.{columns}
 use Rattle.action.proofs.open_row.OpenRow.skip.Given as goal
 
 abbrev pub invariant-loop-turn : goal.invariant-loop-turn
-invariant-loop-turn l = columns l.self ≡ columns l.initial.self ++ replicate l.-turn Blank
+invariant-loop-turn l = columns l.self ≡ columns l.initial.self ++ replicate l._turn Blank

@@ -11,7 +11,7 @@ use Rattle.action.proofs.row.Row.new.Goals.{else-laid_out-via-then-laid_out+else
 pub invariant_of-result : goal.invariant_of-result
 invariant_of-result c =
     let n : length c.args.cells ≡ 48 = search rules in
-    (∣ (laid_out_from_test Blank _ refl (sym c.if-laid_out.ensures), n, sym c.if-not-all_blank.ensures) ∣₁, tt)
+    record { ok = ∣ (laid_out_from_test Blank _ refl (sym c.if-laid_out.ensures), n, sym c.if-not-all_blank.ensures) ∣₁ }
 
 pub returns-else-laid_out : goal.returns-else-laid_out
 returns-else-laid_out c h =
