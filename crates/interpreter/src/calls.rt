@@ -8,7 +8,7 @@ ghost use Rattle.interpreter.specs.Interpreter.{Steps, owes, state_of, step_of};
 use crate::{Interpreter, Taken};
 use action::owed::Owed;
 use printer::Printer;
-use reader::reading::{Meaning, Reading};
+use reader::read_state::{Meaning, Reading};
 use reading::Refusal;
 use settings::Settings;
 

@@ -5,7 +5,7 @@ mod calls;
 
 use action::owed::Owed;
 use printer::Printer;
-use reader::reading::Reading;
+use reader::read_state::Reading;
 use reading::Refusal;
 
 /// What is being read, the printer, and what the bytes taken have ordered and no mechanism has taken yet.

@@ -2,12 +2,12 @@
 use Rattle.reading.specs.Reading as table
 use Rattle.reader.specs.Short.{listed, so_far}
 use Rattle.reader.specs.Commands.{parameters_of, command_of}
-use Rattle.reader.specs.declared.reading.Reading.{Reading}
-use Rattle.reader.specs.declared.reading.Reading.TheVariants.{Text, Escape, Group, Parameter, RepeatWhat, RepeatCount, Collecting}
-use Rattle.reader.specs.declared.reading.Collected.{Collected}
-use Rattle.reader.specs.declared.reading.Collected.TheVariants.{BarParameters, BarString, VerticalList, HorizontalList, Body}
-use Rattle.reader.specs.declared.reading.Meaning.{Meaning}
-use Rattle.reader.specs.declared.reading.Meaning.TheVariants.{More, Done, Refused}
+use Rattle.reader.specs.declared.read_state.Reading.{Reading}
+use Rattle.reader.specs.declared.read_state.Reading.TheVariants.{Text, Escape, Group, Parameter, RepeatWhat, RepeatCount, Collecting}
+use Rattle.reader.specs.declared.read_state.Collected.{Collected}
+use Rattle.reader.specs.declared.read_state.Collected.TheVariants.{BarParameters, BarString, VerticalList, HorizontalList, Body}
+use Rattle.reader.specs.declared.read_state.Meaning.{Meaning}
+use Rattle.reader.specs.declared.read_state.Meaning.TheVariants.{More, Done, Refused}
 
 -- what is collected byte by byte
 abbrev pub collected_of : Collected → table.Reading

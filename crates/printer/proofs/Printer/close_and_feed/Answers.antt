@@ -9,11 +9,11 @@ use Rattle.printer.proofs.Printer.close_and_feed.Goals as goal
 pub loop-turn-preserved : goal.loop-turn-preserved
 loop-turn-preserved c =
     let start = printer_of c.close_row-row.new.self in
-    fed_more start (printer_of c.loop-turn.self) (settings_of c.next_line.new.self) c.loop-turn.-turn start.settings.paper c.loop-turn.invariant c.next_line.ensures
+    fed_more start (printer_of c.loop-turn.self) (settings_of c.next_line.new.self) c.loop-turn._turn start.settings.paper c.loop-turn.invariant c.next_line.ensures
 
 pub returns : goal.returns
 returns c =
     let all =
-    fed (printer_of c.args.self.now) (printer_of c.close_row-row.new.self) (printer_of c.loop-turn.self) c.args.count c.loop-turn.-turn c.paper.result.spacing
+    fed (printer_of c.args.self.now) (printer_of c.close_row-row.new.self) (printer_of c.loop-turn.self) c.args.count c.loop-turn._turn c.paper.result.spacing
     (row_acts c.close_row-row.result) (other_acts c.args.other) c.close_row-row.ensures.after c.loop-turn.invariant (omega arith) c.close_row-row.ensures.acts (ap (λ (q : Paper). q.spacing) c.paper.ensures) in
     record { acts = c.set.ensures.in_order ∙ all.0; printer = all.1 }

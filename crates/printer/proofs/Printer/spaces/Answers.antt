@@ -12,12 +12,12 @@ put_space-feeds-requires c = omega (arith, c.loop-turn.invariant.few)
 
 pub loop-turn-preserved : goal.loop-turn-preserved
 loop-turn-preserved c =
-    spaced_more c.loop-turn.-turn (printer_of c.args.self.now) (printer_of c.loop-turn.self) (printer_of c.put_space-feeds.new.self)
+    spaced_more c.loop-turn._turn (printer_of c.args.self.now) (printer_of c.loop-turn.self) (printer_of c.put_space-feeds.new.self)
     (row_acts c.loop-turn.row) (row_acts c.put_space-feeds.new.row) c.loop-turn.feeds c.put_space-feeds.result c.loop-turn.invariant c.put_space-feeds.ensures
 
 pub returns : goal.returns
 returns c =
-    let all : c.loop-turn.-turn ≡ c.args.count = omega arith in
+    let all : c.loop-turn._turn ≡ c.args.count = omega arith in
     let s : Spaced c.args.count (printer_of c.args.self.now) (printer_of c.loop-turn.self) (row_acts c.loop-turn.row) c.loop-turn.feeds =
     subst (λ (n : ℕ). Spaced n (printer_of c.args.self.now) (printer_of c.loop-turn.self) (row_acts c.loop-turn.row) c.loop-turn.feeds) all c.loop-turn.invariant in
     let front : List Act = row_acts c.loop-turn.row in
