@@ -1,7 +1,7 @@
 -- The page: its sheet is its counts, and then the picture of each row.
-use Rattle.std.specs.Prelude.{◌≡◌, ℕ, ◌+◌, false, List, ◌++◌, length, take, drop, replicate, slice_index}
+use Rattle.std.specs.Prelude.{◌≡◌, ℕ, ◌+◌, ◌-◌, ◌^◌, min, false, List, ◌++◌, length, take, drop, replicate, slice_index}
 use Rattle.job.specs.Actions.{Act}
-use Rattle.mechanism.specs.Buffers.{Appended, room_left}
+use Rattle.mechanism.specs.Buffers.{Appended}
 use Rattle.mechanism.specs.Counts.{counted, first_seven, tally}
 use Rattle.page.specs.declared.page.Page.{Page}
 use Rattle.page.specs.Pictures.{page_need, picture}
@@ -12,14 +12,14 @@ page_rule s a = counted (first_seven s) a ++ (drop 7 s ++ picture (slice_index s
 abbrev pub page_sheet : Page → List ℕ
 page_sheet p = tally p.counts ++ take p.len p.out.now
 
--- the room left in the buffer
+-- the room left in the buffer; no more than 2^32 - 1 bytes of it are used
 abbrev pub page_reserve : Page → ℕ
-page_reserve p = room_left (length p.out.now) p.len
+page_reserve p = min (length p.out.now) (2 ^ 32 - 1) - p.len
 
 -- a page that has written nothing into the buffer that it found
 pub record Begins (p : Page) (found : List ℕ) : Type 0 where
   pub sheet : page_sheet p ≡ replicate 7 0
-  pub reserve : page_reserve p ≡ room_left (length found) 0
+  pub reserve : page_reserve p ≡ min (length found) (2 ^ 32 - 1)
   pub stopped : p.stopped ≡ false
   pub len : p.len ≡ 0
   pub buffer : p.out.now ≡ found

@@ -6,7 +6,8 @@ use Rattle.mechanism.specs.declared.mechanism.Mechanism.{Ghosts}
 use Rattle.runs.specs.Outcomes.{Outcome, Command, Mechanism, outcome_later}
 use Rattle.runs.specs.Offers.{along}
 use Rattle.runs.specs.Feeds.{End, FeedsTo, takes, stuck, reads, refused, ends}
-use Rattle.runs.specs.FeedLaws.{BeginsWith, Does, EndedThere, FeedsDoTheJob}
+use Rattle.runs.specs.FeedLaws.{Does, EndedThere, FeedsDoTheJob}
+use Rattle.runs.specs.Whole.{BeginsWith, DoesInTurn}
 use Rattle.runs.proofs.Counts.{none_more, take_one}
 use Rattle.runs.proofs.Steps.{refused_orders_nothing}
 use Rattle.runs.proofs.Telling.{told_later, read_on, read_refused}
@@ -30,49 +31,74 @@ module _ {S : Type 0} (g : Ghosts S) where
       let Q : ℕ → Type 0 = λ n. BeginsWith done ((step st b).acts ++ (run (step st b).next (take n piece)).acts) in
       subst P (sym fewer) (subst Q less w)
 
-  pub feeds_do_the_job : (owed : List Act) (st : State) (m : S) (piece : List ℕ) (e : End S) → FeedsTo g owed st m piece e → Does g owed st m piece e
-  feeds_do_the_job _ st m piece e (takes {a} {more} {n = n} x f) =
-      let w = feeds_do_the_job more st n piece e f in
+  pub feeds_in_turn : (owed : List Act) (st : State) (m : S) (piece : List ℕ) (e : End S) → FeedsTo g owed st m piece e → DoesInTurn g owed st m piece e
+  feeds_in_turn _ st m piece e (takes {a} {more} {n = n} x f) =
+      let t = feeds_in_turn more st n piece e f in
+      let w = t.does in
       record {
-        within = w.within;
-        reads = w.reads;
-        done = a ∷ w.done;
-        jobs = ap (λ (l : List Act). a ∷ l) w.jobs;
-        chain = (n, x, w.chain);
-        sheets = w.sheets ∙ ap (λ (s : List ℕ). along g.rule s w.done) (g.laws.took_moves m a n x.1).sheet_moves;
-        before_last = λ h. let b = w.before_last h in (b.0, ap (λ (l : List Act). a ∷ l) b.1);
-        refusals = w.refusals;
-        ended_there = w.ended_there;
+        does =
+            record {
+              within = w.within;
+              reads = w.reads;
+              done = a ∷ w.done;
+              jobs = ap (λ (l : List Act). a ∷ l) w.jobs;
+              chain = (n, x.1, w.chain);
+              sheets = w.sheets ∙ ap (λ (s : List ℕ). along g.rule s w.done) (g.laws.took_moves m a n x.1).sheet_moves;
+              refusals = w.refusals;
+              ended_there = w.ended_there;
+            };
+        taken_in_order = (n, x, t.taken_in_order);
+        before_last = λ h. let b = t.before_last h in (b.0, ap (λ (l : List Act). a ∷ l) b.1);
       }
-  feeds_do_the_job owed st m piece _ (stuck {a} {more} x) =
-      record { within = omega arith; reads = refl; done = []; jobs = sym (none_more owed); chain = refl; sheets = refl; before_last = λ h. absurd (omega arith); refusals = refl; ended_there = (a, more, refl, x) }
-  feeds_do_the_job _ st m _ _ (reads {b = b} {piece = piece} {e = e} x f) =
-      let w = feeds_do_the_job (step st b).acts (step st b).next m piece e f in
+  feeds_in_turn owed st m piece _ (stuck {a} {more} x) =
+      record {
+        does = record { within = omega arith; reads = refl; done = []; jobs = sym (none_more owed); chain = refl; sheets = refl; refusals = refl; ended_there = (a, more, refl, x) };
+        taken_in_order = refl;
+        before_last = λ h. absurd (omega arith);
+      }
+  feeds_in_turn _ st m _ _ (reads {b = b} {piece = piece} {e = e} x f) =
+      let t = feeds_in_turn (step st b).acts (step st b).next m piece e f in
+      let w = t.does in
       let k = e.taken in
       let one = sym (take_one k b piece) in
       let l = w.within in
       record {
-        within = omega arith;
-        reads = w.reads ∙ sym (ap (λ (l : List ℕ). (run st l).state) one);
-        done = w.done;
-        jobs = ap (λ (l : List ℕ). (run st l).acts) one ∙ w.jobs;
-        chain = w.chain;
-        sheets = w.sheets;
-        before_last = λ h. one_less st b piece k w.done w.before_last;
-        refusals = ap (λ (l : List ℕ). (run st l).refusals) one ∙ read_on st b (take k piece) x ∙ ap (later 1) w.refusals ∙ told_later 1 e.outcome;
-        ended_there = one_earlier b piece k e.outcome e.owed e.mechanism w.ended_there;
+        does =
+            record {
+              within = omega arith;
+              reads = w.reads ∙ sym (ap (λ (l : List ℕ). (run st l).state) one);
+              done = w.done;
+              jobs = ap (λ (l : List ℕ). (run st l).acts) one ∙ w.jobs;
+              chain = w.chain;
+              sheets = w.sheets;
+              refusals = ap (λ (l : List ℕ). (run st l).refusals) one ∙ read_on st b (take k piece) x ∙ ap (later 1) w.refusals ∙ told_later 1 e.outcome;
+              ended_there = one_earlier b piece k e.outcome e.owed e.mechanism w.ended_there;
+            };
+        taken_in_order = t.taken_in_order;
+        before_last = λ h. one_less st b piece k w.done t.before_last;
       }
-  feeds_do_the_job _ st m _ _ (refused {b = b} {why = why} x) =
+  feeds_in_turn _ st m _ _ (refused {b = b} {why = why} x) =
       record {
-        within = omega arith;
-        reads = refl;
-        done = [];
-        jobs = sym (none_more (step st b).acts) ∙ refused_orders_nothing st b why x;
-        chain = refl;
-        sheets = refl;
+        does =
+            record {
+              within = omega arith;
+              reads = refl;
+              done = [];
+              jobs = sym (none_more (step st b).acts) ∙ refused_orders_nothing st b why x;
+              chain = refl;
+              sheets = refl;
+              refusals = read_refused st b why x;
+              ended_there = refl;
+            };
+        taken_in_order = refl;
         before_last = λ h. ([], refl);
-        refusals = read_refused st b why x;
-        ended_there = refl;
       }
-  feeds_do_the_job _ st m _ _ ends =
-      record { within = omega arith; reads = refl; done = []; jobs = refl; chain = refl; sheets = refl; before_last = λ h. absurd (omega arith); refusals = refl; ended_there = (refl, refl) }
+  feeds_in_turn _ st m _ _ ends =
+      record {
+        does = record { within = omega arith; reads = refl; done = []; jobs = refl; chain = refl; sheets = refl; refusals = refl; ended_there = (refl, refl) };
+        taken_in_order = refl;
+        before_last = λ h. absurd (omega arith);
+      }
+
+  pub feeds_do_the_job : (owed : List Act) (st : State) (m : S) (piece : List ℕ) (e : End S) → FeedsTo g owed st m piece e → Does g owed st m piece e
+  feeds_do_the_job owed st m piece e f = (feeds_in_turn owed st m piece e f).does

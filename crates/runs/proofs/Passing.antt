@@ -11,9 +11,8 @@ use Rattle.runs.specs.Outcomes.{Outcome, Command, Mechanism, told}
 use Rattle.runs.specs.Calls.{Call, fed}
 use Rattle.runs.specs.Offers.{Chain, Left}
 use Rattle.runs.specs.Feeds.{ended, FeedsTo}
-use Rattle.runs.specs.FeedLaws.{BeginsWith, Does}
-use Rattle.runs.specs.Whole.{FeedsAlong, none, then_fed, Passing, PassedTo, Passes}
-use Rattle.runs.proofs.Doing.{feeds_do_the_job}
+use Rattle.runs.specs.Whole.{BeginsWith, DoesInTurn, FeedsAlong, none, then_fed, Passing, PassedTo, Passes}
+use Rattle.runs.proofs.Doing.{feeds_in_turn}
 use Rattle.runs.proofs.Standing.{feed_keeps}
 
 -- places move, and no refusal is lost
@@ -55,17 +54,17 @@ module _ {S : Type 0} (g : Ghosts S) where
         ∙ ap (λ l. l ++ more) p.jobs ∙ append_assoc p.done owed₁ more
 
     module _ (owed₂ : List Act) (st₂ : State) (m₂ : S) (n : ℕ) (e : Outcome) (f : FeedsTo g owed₁ st₁ m₁ (drop k stream) (ended n e owed₂ st₂ m₂)) where
-      does : Does g owed₁ st₁ m₁ (drop k stream) (ended n e owed₂ st₂ m₂)
-      does = feeds_do_the_job g owed₁ st₁ m₁ (drop k stream) (ended n e owed₂ st₂ m₂) f
+      in_turn : DoesInTurn g owed₁ st₁ m₁ (drop k stream) (ended n e owed₂ st₂ m₂)
+      in_turn = feeds_in_turn g owed₁ st₁ m₁ (drop k stream) (ended n e owed₂ st₂ m₂) f
 
       -- the last byte was taken by this feed, or by one before it
-      last_by : 0 < k + n → BeginsWith (p.done ++ does.done) (owed ++ (run st (take (k + n - 1) stream)).acts)
+      last_by : 0 < k + n → BeginsWith (p.done ++ in_turn.does.done) (owed ++ (run st (take (k + n - 1) stream)).acts)
       last_by h =
-          let P : ℕ → Type 0 = λ x. BeginsWith (p.done ++ does.done) (owed ++ (run st (take x stream)).acts) in
+          let P : ℕ → Type 0 = λ x. BeginsWith (p.done ++ in_turn.does.done) (owed ++ (run st (take x stream)).acts) in
           ⊎_elim
           (
           λ q.
-          let b = does.before_last q in
+          let b = in_turn.before_last q in
           let fewer : k + n - 1 ≡ k + (n - 1) = omega arith in
           let some = owed₁ ++ (run st₁ (take (n - 1) (drop k stream))).acts in
           subst P (sym fewer) (b.0, ap (λ l. p.done ++ l) b.1 ∙ sym (append_assoc p.done some b.0) ∙ ap (λ l. l ++ b.0) (sym (jobs_on (n - 1))))
@@ -75,7 +74,7 @@ module _ {S : Type 0} (g : Ghosts S) where
           let b = p.before_last (omega arith) in
           let none_more : k + n - 1 ≡ k - 1 = omega arith in
           let some = owed ++ (run st (take (k - 1) stream)).acts in
-          subst P (sym none_more) (b.0 ++ does.done, ap (λ l. l ++ does.done) b.1 ∙ append_assoc some b.0 does.done)
+          subst P (sym none_more) (b.0 ++ in_turn.does.done, ap (λ l. l ++ in_turn.does.done) b.1 ∙ append_assoc some b.0 in_turn.does.done)
           )
           (cases_lt 0 n)
 
@@ -85,11 +84,11 @@ module _ {S : Type 0} (g : Ghosts S) where
           let q = run st₁ (take n (drop k stream)) in
           let bs = length (take k stream) in
           record {
-            within = omega (arith, does.within, p.within, length-drop k stream);
-            reads = does.reads ∙ sym (ap (λ (z : Run). z.state) (split n));
-            done = p.done ++ does.done;
-            jobs = jobs_on n ∙ ap (λ l. p.done ++ l) does.jobs ∙ sym (append_assoc p.done does.done owed₂);
-            chain = chain_join (Taken g.reserve g.stopped g.need g.took) p.done does.done m m₁ m₂ p.chain does.chain;
+            within = omega (arith, in_turn.does.within, p.within, length-drop k stream);
+            reads = in_turn.does.reads ∙ sym (ap (λ (z : Run). z.state) (split n));
+            done = p.done ++ in_turn.does.done;
+            jobs = jobs_on n ∙ ap (λ l. p.done ++ l) in_turn.does.jobs ∙ sym (append_assoc p.done in_turn.does.done owed₂);
+            chain = chain_join (Taken g.reserve g.stopped g.need g.took) p.done in_turn.does.done m m₁ m₂ p.chain in_turn.taken_in_order;
             before_last = last_by;
             counts =
                 omega (
@@ -98,7 +97,7 @@ module _ {S : Type 0} (g : Ghosts S) where
                   ap (λ (z : Run). length z.refusals) (split n),
                   length-append r.refusals (later bs q.refusals),
                   later_length bs q.refusals,
-                  ap (λ (l : List Refused). length l) does.refusals,
+                  ap (λ (l : List Refused). length l) in_turn.does.refusals,
                 );
             feeds = fed (drop k stream) n e ∷ p.feeds;
             follow = then_fed p.follow;

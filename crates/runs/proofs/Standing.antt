@@ -7,7 +7,7 @@ use Rattle.job.specs.Job.{State, step, run, new, job}
 use Rattle.mechanism.specs.declared.mechanism.Mechanism.{Ghosts}
 use Rattle.mechanism.specs.declared.status.Status.{Status}
 use Rattle.mechanism.specs.Counts.{counted}
-use Rattle.mechanism.specs.Mechanisms.{Moved, Taken, Covered, Supplied}
+use Rattle.mechanism.specs.Mechanisms.{Moved, Covered, Supplied}
 use Rattle.mechanism.specs.Statuses.{status_of}
 use Rattle.runs.specs.Outcomes.{Outcome, Command, refused_at_once, outcome_later}
 use Rattle.runs.specs.Count.{Count, counting, state_behind, Goes, acts, stuck, reads, refused, ends}
@@ -147,14 +147,14 @@ module _ {S : Type 0} (g : Ghosts S) where
 
 -- a feed takes what it has done, one action after the other
 module _ {S : Type 0} (g : Ghosts S) where
-  changed_along : (bs done : List Act) (m n p : S) → Changed g m done n → Chain (Taken g.reserve g.stopped g.need g.took) n bs p → Changed g m (done ++ bs) p
+  changed_along : (bs done : List Act) (m n p : S) → Changed g m done n → Chain g.took n bs p → Changed g m (done ++ bs) p
   changed_along [] done m n p x e =
       let P : S → Type 0 = λ z. Changed g m done z in
       let Q : List Act → Type 0 = λ l. Changed g m l p in
       subst Q (none_more done) (subst P e x)
   changed_along (a ∷ bs) done m n p x (q, t, c) =
       let Q : List Act → Type 0 = λ l. Changed g m l p in
-      subst Q (append_assoc done (a ∷ []) bs) (changed_along bs (done ++ a ∷ []) m q p (took_one x t.1) c)
+      subst Q (append_assoc done (a ∷ []) bs) (changed_along bs (done ++ a ∷ []) m q p (took_one x t) c)
 
   met_changed : (m n : S) (calls : List Call) (st : State) (owed : List Act) (x : Met g m calls st owed n) → Changed g m (met_stands g m n calls st owed x).done n
   unfolding met_stands new_stands feed_keeps cover_keeps supply_keeps status_keeps settings_keeps

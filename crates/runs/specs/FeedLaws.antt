@@ -1,9 +1,8 @@
 -- What one feed does, from whatever was read and owed before it.
-use Rattle.std.specs.Prelude.{◌≡◌, ℕ, ◌-◌, ◌<◌, ◌≤◌, List, [], ◌++◌, length, take, Ok, Err}
+use Rattle.std.specs.Prelude.{◌≡◌, ℕ, ◌≤◌, List, [], ◌++◌, length, take, Ok, Err}
 use Rattle.job.specs.Actions.{Act}
 use Rattle.job.specs.Job.{State, Run, run}
 use Rattle.mechanism.specs.declared.mechanism.Mechanism.{Ghosts}
-use Rattle.mechanism.specs.Mechanisms.{Taken}
 use Rattle.runs.specs.Outcomes.{Outcome, Command, Mechanism, told}
 use Rattle.runs.specs.Offers.{Chain, Left, along}
 use Rattle.runs.specs.Feeds.{End, FeedsTo}
@@ -18,10 +17,6 @@ EndedThere g piece k (Err (Mechanism f)) owed m = Left g (Err f) owed m
 abbrev pub bytes_run : {S : Type 0} → State → List ℕ → End S → Run
 bytes_run st piece e = run st (take e.taken piece)
 
--- a list of actions begins with others
-abbrev pub BeginsWith : List Act → List Act → Type 0
-BeginsWith acts first = (rest : List Act) × (acts ≡ first ++ rest)
-
 -- what a feed has done from the actions owed, the interpreter and the mechanism, with a piece, to its end
 pub record Does {S : Type 0} (g : Ghosts S) (owed : List Act) (st : State) (m : S) (piece : List ℕ) (e : End S) : Type 0 where
   -- it took no more bytes than there are, and the interpreter stands behind them
@@ -30,11 +25,9 @@ pub record Does {S : Type 0} (g : Ghosts S) (owed : List Act) (st : State) (m : 
   -- what was owed, and then what these bytes order, is what was done, and then what is owed
   pub done : List Act
   pub jobs : owed ++ (bytes_run st piece e).acts ≡ done ++ e.owed
-  -- the mechanism took what was done, in order: none of it was refused, and whatever else it promises of an action taken holds
-  pub chain : Chain (Taken g.reserve g.stopped g.need g.took) m done e.mechanism
+  -- the mechanism took what was done, in order, with whatever else it promises of an action taken
+  pub chain : Chain g.took m done e.mechanism
   pub sheets : g.sheet e.mechanism ≡ along g.rule (g.sheet m) done
-  -- when the last byte was taken, nothing was owed: what was owed, and what the bytes before that one order, was done
-  pub before_last : 0 < e.taken → BeginsWith done (owed ++ (run st (take (e.taken - 1) piece)).acts)
   -- no command was refused in these bytes but the one that it tells of, if that ended it
   pub refusals : (bytes_run st piece e).refusals ≡ told e.outcome
   pub ended_there : EndedThere g piece e.taken e.outcome e.owed e.mechanism

@@ -7,8 +7,21 @@ use Rattle.mechanism.specs.Mechanisms.{Taken}
 use Rattle.runs.specs.Outcomes.{Outcome, Command, Mechanism}
 use Rattle.runs.specs.Calls.{Call, fed}
 use Rattle.runs.specs.Offers.{Chain, Left}
-use Rattle.runs.specs.FeedLaws.{BeginsWith}
+use Rattle.runs.specs.Feeds.{End}
+use Rattle.runs.specs.FeedLaws.{Does}
 use Rattle.runs.specs.Stands.{View, Stands, viewed}
+
+-- a list of actions begins with others
+abbrev pub BeginsWith : List Act → List Act → Type 0
+BeginsWith acts first = (rest : List Act) × (acts ≡ first ++ rest)
+
+-- what a feed has done, and that it was done in turn
+pub record DoesInTurn {S : Type 0} (g : Ghosts S) (owed : List Act) (st : State) (m : S) (piece : List ℕ) (e : End S) : Type 0 where
+  pub does : Does g owed st m piece e
+  -- the mechanism took what was done, in order: none of it was refused, and whatever else it promises of an action taken holds
+  pub taken_in_order : Chain (Taken g.reserve g.stopped g.need g.took) m does.done e.mechanism
+  -- when the last byte was taken, nothing was owed: what was owed, and what the bytes before that one order, was done
+  pub before_last : 0 < e.taken → BeginsWith does.done (owed ++ (run st (take (e.taken - 1) piece)).acts)
 
 -- feeds along a stream, the latest first, and how many bytes they took: each is offered what those before it left
 pub data FeedsAlong (stream : List ℕ) : List Call → ℕ → Type 0 where

@@ -4,7 +4,6 @@ ghost use Rattle.mechanism.specs.Counts.{tally};
 ghost use Rattle.page.specs.Pages.{page_reserve, page_sheet, Begins};
 
 use crate::page::Page;
-use mechanism::buffers::{front, room};
 use mechanism::counts::Counts;
 
 impl<'a> Page<'a> {
@@ -31,7 +30,7 @@ impl<'a> Page<'a> {
     pub fn reserve(&self) -> u32
         ensures { result ≡ page_reserve self.now }
     {
-        room(self.out.len(), self.len)
+        self.out.len().min(0xFFFF_FFFF).saturating_sub(self.len) as u32
     }
 
     pub fn is_stopped(&self) -> bool
@@ -46,4 +45,12 @@ impl<'a> Page<'a> {
     {
         front(self.out, self.len)
     }
+}
+
+/// So many bytes from the front, or all if there are fewer.
+fn front(bytes: &[u8], len: usize) -> &[u8]
+    ensures { result.now ≡ take len bytes.now }
+{
+    let end = len.min(bytes.len());
+    &bytes[0..end]
 }
