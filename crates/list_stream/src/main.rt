@@ -5,6 +5,7 @@ use anyhow::anyhow;
 use listing::listing;
 use std::env;
 use std::io::{Read, Write};
+use std::process::ExitCode;
 use stream::STREAM_MAX;
 
 const USAGE: &str = "usage: list_stream < STREAM
@@ -27,7 +28,7 @@ fn list(rt: &HostRuntime) -> anyhow::Result<()> {
 fn run(rt: &HostRuntime) -> anyhow::Result<()> {
     match env::args(rt)?.nth(1) {
         None => list(rt),
-        Some(word) if word == "--help" => {
+        Some(word) if word.as_str() == "--help" => {
             rt.print(USAGE)?;
             Ok(())
         }
@@ -35,10 +36,10 @@ fn run(rt: &HostRuntime) -> anyhow::Result<()> {
     }
 }
 
-fn main(rt: HostRuntime) -> anyhow::Result<()> {
-    let outcome = run(&rt);
-    if let Err(fault) = &outcome {
+fn main(rt: HostRuntime) -> anyhow::Result<ExitCode> {
+    if let Err(fault) = run(&rt) {
         eprintln!(rt; "list_stream: {fault}")?;
+        return Ok(ExitCode::FAILURE);
     }
-    outcome
+    Ok(ExitCode::SUCCESS)
 }

@@ -8,6 +8,7 @@ use report::whole_text::whole_text;
 use runs::fault::RefusedCommand;
 use std::env;
 use std::io::{Read, Write};
+use std::process::ExitCode;
 use stream::STREAM_MAX;
 
 const USAGE: &str = "usage: normal_text [--lines] < STREAM
@@ -69,20 +70,20 @@ fn run(rt: &HostRuntime) -> anyhow::Result<()> {
     if words.next().is_some() {
         return Err(anyhow!("it takes one argument at most; try --help"));
     }
-    if word == "--lines" {
+    if word.as_str() == "--lines" {
         return write_text(rt, Form::Lines);
     }
-    if word == "--help" {
+    if word.as_str() == "--help" {
         rt.print(USAGE)?;
         return Ok(());
     }
     Err(anyhow!("it takes --lines or nothing; try --help"))
 }
 
-fn main(rt: HostRuntime) -> anyhow::Result<()> {
-    let outcome = run(&rt);
-    if let Err(fault) = &outcome {
+fn main(rt: HostRuntime) -> anyhow::Result<ExitCode> {
+    if let Err(fault) = run(&rt) {
         eprintln!(rt; "normal_text: {fault}")?;
+        return Ok(ExitCode::FAILURE);
     }
-    outcome
+    Ok(ExitCode::SUCCESS)
 }

@@ -12,6 +12,7 @@ use page::page::Page;
 use plate::plate::Plate;
 use station::station::Station;
 use std::env;
+use std::process::ExitCode;
 use writer::writer::Writer;
 
 const USAGE: &str = "usage: simulate < SCRIPT
@@ -75,7 +76,7 @@ fn play<M: Mechanism + Gauges>(
         rt.print(&line)?;
         rt.print(" -> ")?;
         answer(rt, station, &call)?;
-        show_state(rt, station.mechanism(), station.owed())?;
+        show_state(rt, station.mechanism(), *station.owed())?;
     }
     Ok(None)
 }
@@ -117,26 +118,26 @@ fn simulate(rt: &HostRuntime, script: &mut Script) -> anyhow::Result<()> {
 }
 
 /// Plays the script on standard input; what is wrong with it is told with the number of its line.
-fn play_input(rt: &HostRuntime) -> anyhow::Result<()> {
-    let mut script = Script::new(rt.stdin());
-    let played = simulate(rt, &mut script);
-    if let Err(fault) = &played {
+fn play_input(rt: &HostRuntime) -> anyhow::Result<ExitCode> {
+    let mut script = Script::new(rt.alloc(), rt.stdin())?;
+    if let Err(fault) = simulate(rt, &mut script) {
         let number = script.number();
         eprintln!(rt; "simulate: line {number}: {fault}")?;
+        return Ok(ExitCode::FAILURE);
     }
-    played
+    Ok(ExitCode::SUCCESS)
 }
 
-fn main(rt: HostRuntime) -> anyhow::Result<()> {
+fn main(rt: HostRuntime) -> anyhow::Result<ExitCode> {
     match env::args(&rt)?.nth(1) {
         None => play_input(&rt),
-        Some(word) if word == "--help" => {
+        Some(word) if word.as_str() == "--help" => {
             rt.print(USAGE)?;
-            Ok(())
+            Ok(ExitCode::SUCCESS)
         }
         Some(_) => {
             rt.eprintln("simulate: it takes no arguments; try --help")?;
-            Err(anyhow!("arguments"))
+            Ok(ExitCode::FAILURE)
         }
     }
 }

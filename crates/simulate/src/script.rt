@@ -33,11 +33,11 @@ pub enum Call {
 }
 
 impl Script {
-    pub fn new(input: Stdin) -> Script {
-        Script {
-            input: BufReader::new(input),
+    pub fn new(heap: Global, input: Stdin) -> io::Result<Script> {
+        Ok(Script {
+            input: BufReader::new(heap, input)?,
             number: 0,
-        }
+        })
     }
 
     /// The number of the last line read, from 1.

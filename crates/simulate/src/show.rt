@@ -171,8 +171,21 @@ pub fn show_settings(rt: &HostRuntime, settings: &Settings) -> anyhow::Result<()
     Ok(())
 }
 
+/// How many actions are owed: at most a row, 255 advances and another one.
+fn count_owed(mut owed: Owed) -> u32 {
+    let mut count = 0u32;
+    for _turn in 0..257 {
+        if owed.is_empty() {
+            break;
+        }
+        owed.remove_first();
+        count = count.saturating_add(1);
+    }
+    count
+}
+
 /// The state after a call: counts, bytes beyond them, reserve, stopped mark, number of actions owed, latest reply.
-pub fn show_state<G: Gauges>(rt: &HostRuntime, mechanism: &G, owed: &Owed) -> anyhow::Result<()> {
+pub fn show_state<G: Gauges>(rt: &HostRuntime, mechanism: &G, owed: Owed) -> anyhow::Result<()> {
     let c = mechanism.counts();
     rt.print(" ; ")?;
     for count in [c.advance, c.rows, c.bars, c.cuts, c.pulses, c.beeps] {
@@ -183,7 +196,7 @@ pub fn show_state<G: Gauges>(rt: &HostRuntime, mechanism: &G, owed: &Owed) -> an
     show_hex(rt, mechanism.beyond())?;
     let reserve = mechanism.reserve();
     let stopped = yes_or_no(mechanism.is_stopped());
-    let owed = owed.len();
+    let owed = count_owed(owed);
     print!(rt; " / {reserve} / {stopped} / {owed} / ")?;
     show_hex(rt, mechanism.latest_reply())?;
     rt.println("")?;

@@ -1,10 +1,22 @@
 //! Drives the odd mechanism by the feed that serves every other: it starts stopped with a reserve of 600, needs 500 for a row,
 //! 52 for an advance of 25, 2 for a beep and 1 for a reply, spends half of it, and grants half of an offer.
-#![tactic(auto)]
-
 use mechanism::mechanism::Mechanism;
 use odd_mechanism::odd::OddMechanism;
 use station::station::Station;
+
+/// How many actions are owed.
+fn count_owed<M: Mechanism>(station: &Station<M>) -> u32 {
+    let mut owed = *station.owed();
+    let mut count = 0u32;
+    for _turn in 0..257 {
+        if owed.is_empty() {
+            break;
+        }
+        owed.remove_first();
+        count = count.saturating_add(1);
+    }
+    count
+}
 
 /// Feeds a piece, and prints what came of it.
 fn feed<M: Mechanism>(
@@ -18,7 +30,7 @@ fn feed<M: Mechanism>(
         Ok(()) => 0,
         Err(fault) => fault.number(),
     };
-    let owed = station.owed().len();
+    let owed = count_owed(station);
     println!(rt; "{name}: {taken} taken, refusal {number}, {owed} owed")?;
     Ok(())
 }
