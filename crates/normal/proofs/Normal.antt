@@ -107,7 +107,7 @@ module _ (found : List ℕ) (w v : Writer) (begins : Begins w found) (out : List
 
 -- the same of the answer
 pub answers : (found stream : List ℕ) (w v : Writer) (n passed : ℕ) (r : Result Unit NormaliseFault) {out : List ℕ} → Begins w found → Bytes stream → WritesText w stream passed r v → n ≡ v.len
-    → (name w.out ≡ name v.out → out ≡ now v.out) → Normalises stream found (record { written = n; passed_over = passed; outcome = r }) out
+    → (w.out.ghost_name ≡ v.out.ghost_name → out ≡ v.out.now) → Normalises stream found (record { written = n; passed_over = passed; outcome = r }) out
 answers found stream w v n passed r {out} begins bytes writes len back =
     let P : ℕ → Type 0 = λ k. EndsSo stream found k passed r out in
     record { ends = subst P (sym len) (ends_so found w v begins out back stream passed bytes r writes) }

@@ -54,7 +54,7 @@ module _ (found : List ℕ) (w v : Writer) (begins : Begins w found) (out : List
 
 module _ (found stream : List ℕ) (w v : Writer) (n passed : ℕ) where
   pub stands_behind : (r : Result Unit NormaliseFault) {out : List ℕ} → Begins w found → WritesText w stream passed r v → n ≡ v.len
-      → (name w.out ≡ name v.out → out ≡ now v.out) → StandsBehindFeeds stream found (record { written = n; passed_over = passed; outcome = r }) out
+      → (w.out.ghost_name ≡ v.out.ghost_name → out ≡ v.out.now) → StandsBehindFeeds stream found (record { written = n; passed_over = passed; outcome = r }) out
   stands_behind (Ok u) {out} begins writes len back short =
       let P : ℕ → Type 0 = λ k. RunStands stream found k out in
       subst P (sym len) (ran found w v begins out back stream passed (Ok u) writes)
