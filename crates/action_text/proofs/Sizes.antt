@@ -1,5 +1,5 @@
 -- How long texts are.
-use Rattle.std.proofs.Common.{◌≡◌, ℕ, suc, ◌+◌, ◌*◌, ◌≤◌, Bool, true, false, cond, eqb, List, [], ◌∷◌, ◌++◌, length, arith, length-append}
+use Rattle.std.proofs.Common.{◌≡◌, ℕ, ◌+◌, ◌*◌, ◌≤◌, Bool, true, false, cond, eqb, List, [], ◌∷◌, length, arith, length-append}
 use mathlib.Core.Bool.{beq}
 use Rattle.reading.specs.declared.Reply.TheVariants.{Status1, Status2, Identity, Configuration, WrongCharacter, WrongLength, UnknownKind}
 use Rattle.job.specs.declared.cells.Attributes.{Attributes}
@@ -8,10 +8,9 @@ use Rattle.job.specs.declared.cells.Cell.TheVariants.{Blank, Character, Tail}
 use Rattle.job.specs.Actions.{plain, Act, row, advance, bars, total_cut, partial_cut, pulse, beep, reply}
 use Rattle.job.specs.BarCodes.{kind_number, kind_of}
 use Rattle.job.specs.NormalText.{flag, mode_bits, attribute_change, cells_text, up_to_last, action_text}
-use Rattle.job.specs.Orderable.{Orderable}
 use Rattle.job.proofs.Rows.{up_to_last_le}
 use Rattle.job.proofs.Strings.{accepted_short}
-use Rattle.action_text.specs.Needs.{text_need, longest, TextsFit}
+use Rattle.action_text.specs.Needs.{longest, TextsFit}
 
 at_most_three : (b : Bool) (x y z : ℕ) → length (cond b [] (x ∷ y ∷ z ∷ [])) ≤ 3
 at_most_three true x y z = omega arith

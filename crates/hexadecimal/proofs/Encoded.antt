@@ -1,9 +1,8 @@
 -- Digits are read back.
-use Rattle.std.proofs.Common.{◌≡◌, ℕ, ◌+◌, ◌-◌, ◌*◌, ◌/◌, ◌%◌, ◌<◌, ◌≤◌, Bool, true, false, cond, ◌&&◌, ltb, leb, List, [], ◌∷◌, ◌++◌, length, get_or, take, Some, None, Option, sym, refl, ap, ◌∙◌, ⊎_elim, arith}
+use Rattle.std.proofs.Common.{◌≡◌, ℕ, ◌+◌, ◌*◌, ◌/◌, ◌%◌, ◌<◌, List, [], ◌∷◌, ◌++◌, length, get_or, take, Some, sym, refl, ap, ◌∙◌, arith}
 use Rattle.std.proofs.lemmas.Bool.Decides.{nat_tests}
 use Rattle.std.proofs.lemmas.List.{flat_map_more, take_more}
-use Rattle.std.specs.Option.{option_map}
-use Rattle.hexadecimal.specs.Digits.{digit_value, of_digits, with_byte, decoded, digit_of, two_digits, encoded, EncodesBack}
+use Rattle.hexadecimal.specs.Digits.{digit_value, of_digits, with_byte, digit_of, two_digits, encoded, EncodesBack}
 
 digit_back : (n : ℕ) → n < 16 → digit_value (digit_of n) ≡ Some n
 digit_back n h = grind (arith, nat_tests)

@@ -3,7 +3,7 @@ use Rattle.std.proofs.Common.{◌≡◌, ℕ, List, [], ◌∷◌, length, ℤ, 
 use Rattle.reading.specs.declared.Refusal.{Refusal}
 use Rattle.reading.specs.Unfinished.{begun}
 use Rattle.job.specs.Actions.{Act}
-use Rattle.job.specs.Job.{State, Step, Run, Refused, step, stay, later, refused_here, followed_by, run_byte}
+use Rattle.job.specs.Job.{State, Step, Run, step, stay, later, refused_here, followed_by, run_byte}
 
 -- a refused byte, its command placed by the bytes that have come of it
 pub refused_at : (st next : State) (b index k : ℕ) (why : Refusal) (place : ℤ) (acts : List Act)

@@ -1,5 +1,5 @@
 -- The listing of a stream, and what the call that makes it answers.
-use Rattle.std.specs.Prelude.{◌≡◌, ℕ, ◌+◌, true, false, List, [], ◌∷◌, ◌++◌, length, Some, None}
+use Rattle.std.specs.Prelude.{◌≡◌, ℕ, ◌+◌, true, false, List, [], ◌++◌, length, Some, None}
 use Rattle.stream.specs.Answers.{too_long}
 use Rattle.stream.specs.Lines.{line_of, line_fault_number}
 use Rattle.stream.specs.Parts.{Part, part_at}

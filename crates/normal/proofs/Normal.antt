@@ -1,24 +1,23 @@
 -- What normalise has written, by how the feeds to its writer ended.
-use Rattle.std.proofs.Common.{◌≡◌, ℕ, ◌+◌, ◌-◌, ◌<◌, ◌≤◌, true, false, List, [], ◌∷◌, ◌++◌, length, take, drop, Ok, Err, Result, sym, refl, ap, ◌∙◌, subst, ⊎_elim, append_assoc, append-nil, arith, length-append}
+use Rattle.std.proofs.Common.{◌≡◌, ℕ, ◌+◌, ◌-◌, ◌<◌, List, ◌∷◌, ◌++◌, length, take, drop, Ok, Err, Result, sym, ap, ◌∙◌, subst, ⊎_elim, append_assoc, append-nil, arith, length-append}
 use Rattle.std.proofs.lemmas.List.{take_all, take-append-drop}
 use Rattle.std.proofs.lemmas.Bool.{both_ways, cases_lt}
 use Rattle.job.specs.Actions.{Act}
-use Rattle.job.specs.Job.{State, run, new, job}
+use Rattle.job.specs.Job.{run, new, job}
 use Rattle.job.specs.Laws.{Bytes}
-use Rattle.job.specs.NormalText.{job_text, normal_text}
+use Rattle.job.specs.NormalText.{job_text}
 use Rattle.mechanism.specs.Buffers.{Appended}
 use Rattle.mechanism.specs.declared.fault.Fault.TheVariants.{Stopped, ShortReserve}
 use Rattle.action_text.specs.Needs.{text_need}
 use Rattle.runs.specs.declared.fault.FeedFault.TheVariants.{Command, Mechanism}
 use Rattle.runs.specs.Outcomes.{Outcome}
-use Rattle.runs.specs.Whole.{Passing}
 use Rattle.runs.proofs.Steps.{acts_join}
 use Rattle.writer.specs.declared.writer.Writer.{Writer}
-use Rattle.writer.specs.Writers.{writer_reserve, Begins}
+use Rattle.writer.specs.Writers.{Begins}
 use Rattle.normal.specs.declared.answer.NormaliseFault.{NormaliseFault}
 use Rattle.normal.specs.declared.answer.NormaliseFault.TheVariants.{StreamTooLong, Feed}
 use Rattle.normal.specs.Fitting.{Fit, room}
-use Rattle.normal.specs.Written.{text_writer, FedToWriter, WritesText}
+use Rattle.normal.specs.Written.{FedToWriter, WritesText}
 use Rattle.normal.specs.Normalises.{refused_in, WholeText, PartText, EndsSo, Normalises}
 use Rattle.normal.proofs.Writing.{Over, chain_over}
 use Rattle.normal.proofs.Released.{releases}

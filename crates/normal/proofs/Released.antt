@@ -1,6 +1,5 @@
 -- A normal text releases its stream's ticket.
 use Rattle.std.proofs.Common.{◌≡◌, ℕ, List, sym, refl, subst}
-use Rattle.job.specs.Job.{job}
 use Rattle.job.specs.Laws.{Bytes}
 use Rattle.job.specs.NormalText.{normal_text}
 use Rattle.job.proofs.Texts.{normal_texts_canonical, settled}

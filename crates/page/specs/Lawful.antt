@@ -1,5 +1,5 @@
 -- The page keeps the laws of mechanisms.
-use Rattle.std.specs.Prelude.{ℕ, ◌≤◌, List, ◌++◌, drop, slice_index}
+use Rattle.std.specs.Prelude.{◌≤◌, ◌++◌, drop, slice_index}
 use Rattle.std.proofs.Common.{arith}
 use Rattle.job.specs.Actions.{Act, row, advance, bars, total_cut, partial_cut, pulse, beep, reply}
 use Rattle.job.specs.Orderable.{Orderable}

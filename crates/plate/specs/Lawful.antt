@@ -3,7 +3,7 @@ use Rattle.std.specs.Prelude.{ℕ, ◌≤◌, ◌≡◌, List, []}
 use Rattle.std.proofs.Common.{sym, ap, ◌∙◌, append-nil, arith}
 use Rattle.job.specs.Actions.{Act, row, advance, bars, total_cut, partial_cut, pulse, beep, reply}
 use Rattle.job.specs.Orderable.{Orderable}
-use Rattle.mechanism.specs.Counts.{counted, first_seven, leading_counts}
+use Rattle.mechanism.specs.Counts.{counted, leading_counts}
 use Rattle.mechanism.specs.Mechanisms.{Laws, need_limit}
 use Rattle.mechanism.proofs.Counting as counting
 use Rattle.plate.specs.Plates.{plate_need, plate_rule, plate_sheet, Took}

@@ -1,10 +1,10 @@
 -- Line feeds one after another: the row is closed once, then come equal advances.
-use Rattle.std.proofs.Common.{◌≡◌, ℕ, zero, suc, ◌+◌, ◌-◌, ◌≤◌, List, [], ◌∷◌, ◌++◌, sym, refl, ap, ◌∙◌, append_assoc, append-nil, not-suc-le-zero, add-one}
+use Rattle.std.proofs.Common.{◌≡◌, ℕ, zero, suc, ◌+◌, ◌-◌, ◌≤◌, List, [], ◌++◌, sym, refl, ap, ◌∙◌, append_assoc, append-nil, not-suc-le-zero, add-one}
 use Rattle.job.specs.declared.settings.Paper.{Paper}
 use Rattle.job.specs.Actions.{Act}
 use Rattle.job.specs.Printer.{Printer, Settings, change, with_paper, emptied}
 use Rattle.job.specs.Row.{closing}
-use Rattle.job.specs.Effects.{Effect, times}
+use Rattle.job.specs.Effects.{times}
 use Rattle.job.specs.Lines.{feed_line, next_line, close_and_feed}
 use Rattle.job.proofs.Feeds.{advances, bare_blanks, bare_feeds, feeds}
 

@@ -1,5 +1,5 @@
 -- Spaces one after another: a row is ordered at the first line feed at most.
-use Rattle.std.proofs.Common.{◌≡◌, ℕ, zero, suc, ◌+◌, ◌-◌, ◌≤◌, Bool, true, false, cond, ◌&&◌, ◌||◌, eqb, ◌⊎◌, List, [], ◌∷◌, ◌++◌, map, replicate, MatchBool, sym, refl, ap, ◌∙◌, subst, inl, inr, ⊎_elim, append_assoc, append-nil, add-one, arith}
+use Rattle.std.proofs.Common.{◌≡◌, ℕ, zero, suc, ◌+◌, ◌-◌, ◌≤◌, Bool, true, false, cond, ◌&&◌, ◌||◌, eqb, List, [], ◌∷◌, ◌++◌, map, replicate, sym, refl, ap, ◌∙◌, subst, ⊎_elim, append_assoc, append-nil, add-one, arith}
 use Rattle.std.proofs.lemmas.Bool.{cond-true, cond-false, cases_Bool, ne_eqb, eq-eqb}
 use Rattle.std.proofs.lemmas.List.{map-append, replicate_more}
 use Rattle.std.proofs.lemmas.Bool.Decides.{when_true, when_false}
@@ -10,7 +10,7 @@ use Rattle.job.specs.Actions.{Act, advance}
 use Rattle.job.specs.Printer.{Printer}
 use Rattle.job.specs.Row.{closed_cell, is_blank, closing, fits, next_attributes, cells_of, with_character}
 use Rattle.job.specs.Effects.{Effect, quiet, ◌then◌, times}
-use Rattle.job.specs.Lines.{feed_line, put}
+use Rattle.job.specs.Lines.{feed_line}
 use Rattle.job.proofs.Feeds.{Bare, bare_blanks, bare_closing, advances, no_advances, feed_acts}
 use Rattle.printer.specs.Spaces.{space, SpacePut}
 

@@ -2,7 +2,7 @@
 use Rattle.std.proofs.Common.{◌≡◌, ℕ, List, [], ◌∷◌, ◌++◌, sym, refl, ap, ◌∙◌, subst, append_assoc}
 use Rattle.std.proofs.lemmas.List.{append-nil}
 use Rattle.reading.specs.Reading.{Reading, text, Meaning, more, done, refused, meaning, next_reading, reading_after}
-use Rattle.reading.specs.Unfinished.{begun, BegunBy, UnfinishedCommandsAreKept}
+use Rattle.reading.specs.Unfinished.{begun, UnfinishedCommandsAreKept}
 use Rattle.reading.proofs.Within.{Within, Moves, moves, few}
 
 -- bytes in pieces

@@ -1,10 +1,10 @@
 -- A byte either adds to the command that is being read, within its length, or ends it.
-use Rattle.std.proofs.Common.{◌≡◌, ℕ, ◌+◌, ◌<◌, ◌≤◌, Bool, true, false, cond, eqb, ltb, List, [], ◌∷◌, ◌++◌, length, sym, refl, ap, ◌∙◌, subst, append_assoc, arith, length-append, rules}
+use Rattle.std.proofs.Common.{◌≡◌, ℕ, ◌+◌, ◌<◌, ◌≤◌, Bool, true, false, cond, eqb, ltb, List, [], ◌∷◌, ◌++◌, length, sym, refl, ap, subst, append_assoc, arith, length-append, rules}
 use Rattle.std.specs.List.{AllByRecursion as All}
 use Rattle.std.proofs.lemmas.List.{length_push, append-nil}
 use Rattle.std.proofs.lemmas.Bool.{eqb-true, ltb-true, ltb-false}
 use Rattle.reading.specs.Tests.{find}
-use Rattle.reading.specs.Commands.{Command, ParameterCode, Expanded, DoubleHeight, Underline, Italic, PrintMode, Spacing, FeedSteps, PageLength, LeftMargin, RightMargin, bar_code, set_vertical_stops, set_horizontal_stops, configure, print}
+use Rattle.reading.specs.Commands.{Command, bar_code, set_vertical_stops, set_horizontal_stops, configure, print}
 use Rattle.reading.specs.Reading.{Reading, text, escape, group, parameter, repeat_what, repeat_count, bar_parameters, bar_string, vertical_list, horizontal_list, body, Meaning, more, done, refused, complete, unknown, too_long, is_text, single_bytes, escape_codes, group_codes, up_to_zero, meaning}
 use Rattle.reading.specs.Unfinished.{begun}
 

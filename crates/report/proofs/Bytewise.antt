@@ -1,13 +1,13 @@
 -- A report, byte by byte.
-use Rattle.std.proofs.Common.{◌≡◌, ℕ, ◌+◌, ◌<◌, ◌≤◌, List, [], ◌∷◌, ◌++◌, map, length, get_or, take, sym, refl, ap, ◌∙◌, subst, append_assoc, append-nil, arith}
+use Rattle.std.proofs.Common.{◌≡◌, ℕ, ◌+◌, ◌<◌, ◌≤◌, List, [], ◌∷◌, ◌++◌, length, get_or, take, sym, refl, ap, ◌∙◌, subst, append_assoc, append-nil, arith}
 use Rattle.std.proofs.lemmas.List.{take_more, take_all, length-take-le}
 use Rattle.job.specs.Actions.{Act}
 use Rattle.job.specs.Job.{State, Run, Refused, later, run_byte, followed_by, run, new}
 use Rattle.job.proofs.Runs.{run_append}
 use Rattle.interpreter.specs.declared.Interpreter.{Interpreter}
-use Rattle.interpreter.specs.Interpreter.{owes, state_of}
+use Rattle.interpreter.specs.Interpreter.{state_of}
 use Rattle.runs.specs.declared.fault.RefusedCommand.{RefusedCommand}
-use Rattle.report.specs.Reports.{action_line, action_lines, refused_of, AddsByte, Reports}
+use Rattle.report.specs.Reports.{action_line, action_lines, AddsByte, Reports}
 
 lines_join : (a b : List Act) → action_lines (a ++ b) ≡ action_lines a ++ action_lines b
 lines_join [] b = refl

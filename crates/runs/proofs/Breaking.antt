@@ -1,13 +1,13 @@
 -- The law is false of a broken station.
-use Rattle.std.proofs.Common.{◌≡◌, ℕ, suc, ◌+◌, ◌≤◌, Bool, true, false, List, [], ◌∷◌, ◌++◌, length, sym, refl, ap, ◌∙◌, arith, length-append}
+use Rattle.std.proofs.Common.{◌≡◌, ℕ, ◌+◌, ◌≤◌, Bool, List, [], ◌∷◌, length, refl, ap, ◌∙◌, arith, length-append}
 use Rattle.job.specs.Actions.{Act, beep}
 use Rattle.job.specs.Job.{State, job}
 use Rattle.runs.specs.Outcomes.{Outcome}
-use Rattle.runs.specs.Count.{Count, counting, reads, refused, acts, ends}
+use Rattle.runs.specs.Count.{Count, reads, refused, acts, ends}
 use Rattle.runs.specs.Calls.{Call, fed, covered, supplied, Choice, falls, Counted, none, then_fed, then_covered, then_supplied, bytes_taken}
 use Rattle.runs.specs.Offers.{along}
 use Rattle.runs.specs.Stands.{View, Stands}
-use Rattle.runs.specs.Breaks.{Breaks, needs_nothing, adds_one, shows}
+use Rattle.runs.specs.Breaks.{Breaks, adds_one}
 use Rattle.runs.proofs.Counts.{follows}
 
 along_length : (s : List ℕ) (done : List Act) → length (along adds_one s done) ≡ length s + length done

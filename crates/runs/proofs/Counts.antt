@@ -1,5 +1,5 @@
 -- One count, and one answer to each call.
-use Rattle.std.proofs.Common.{◌≡◌, ℕ, suc, ◌+◌, ◌-◌, ◌<◌, ◌≤◌, Bool, true, false, List, [], ◌∷◌, ◌++◌, length, take, Ok, Err, sym, refl, ap, ◌∙◌, subst, append_assoc, arith}
+use Rattle.std.proofs.Common.{◌≡◌, ℕ, suc, ◌+◌, Bool, List, [], ◌∷◌, ◌++◌, take, Err, sym, refl, ap, ◌∙◌, subst, append_assoc, arith}
 use Rattle.reading.specs.declared.Refusal.{Refusal}
 use Rattle.job.specs.Actions.{Act}
 use Rattle.job.specs.Job.{step}
@@ -8,7 +8,7 @@ use Rattle.mechanism.specs.declared.fault.Fault.TheVariants.{Stopped, ShortReser
 use Rattle.mechanism.specs.Refusals.{Barred, Free}
 use Rattle.runs.specs.Outcomes.{Outcome, Command, Mechanism, refused_at_once, outcome_later}
 use Rattle.runs.specs.Count.{Count, state_behind, Goes, acts, stuck, reads, refused, ends}
-use Rattle.runs.specs.Calls.{Call, Choice, Counted, none, then_fed, then_covered, then_supplied, then_status, then_settings, all_asked, bytes_taken}
+use Rattle.runs.specs.Calls.{Call, Choice, Counted, none, then_fed, then_covered, then_supplied, then_status, then_settings, all_asked}
 use Rattle.runs.specs.CountLaws.{Follows, Joins, CountsBytes}
 use Rattle.runs.proofs.Steps.{none_or_some, same_refusal}
 

@@ -1,5 +1,5 @@
 -- How a feed goes, loop by loop: the actions owed are offered, and then, byte by byte, a byte is read and what it orders is offered.
-use Rattle.std.proofs.Common.{◌≡◌, ℕ, ◌+◌, ◌<◌, ◌≤◌, List, [], ◌∷◌, ◌++◌, length, get_or, drop, ℤ, pos, ◌+ℤ◌, neg_ℤ, Some, None, Ok, Err, sym, refl, ap, ◌∙◌, subst, arith}
+use Rattle.std.proofs.Common.{◌≡◌, ℕ, ◌+◌, ◌<◌, ◌≤◌, List, [], ◌∷◌, ◌++◌, length, get_or, drop, ℤ, pos, ◌+ℤ◌, neg_ℤ, Some, None, Ok, Err, sym, ap, ◌∙◌, subst, arith}
 use Rattle.std.proofs.lemmas.List.{drop_more, drop_all}
 use Rattle.reading.specs.declared.Refusal.{Refusal}
 use Rattle.reading.specs.Unfinished.{begun}
@@ -8,7 +8,7 @@ use Rattle.job.specs.Job.{State, step}
 use Rattle.mechanism.specs.declared.fault.Fault.{Fault}
 use Rattle.mechanism.specs.declared.mechanism.Mechanism.{Ghosts}
 use Rattle.mechanism.specs.Mechanisms.{Taken}
-use Rattle.runs.specs.Outcomes.{Outcome, Command, Mechanism, refused_at_once}
+use Rattle.runs.specs.Outcomes.{Command, Mechanism, refused_at_once}
 use Rattle.runs.specs.Offers.{Chain, Settled}
 use Rattle.runs.specs.Feeds.{End, ended, later, FeedsTo, takes, stuck, reads, refused, ends}
 use Rattle.runs.proofs.Outcomes.{later_none, later_later}

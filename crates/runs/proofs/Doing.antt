@@ -1,12 +1,12 @@
 -- What one feed does.
-use Rattle.std.proofs.Common.{◌≡◌, ℕ, zero, suc, ◌+◌, ◌-◌, ◌<◌, ◌≤◌, List, [], ◌∷◌, ◌++◌, length, take, Ok, Err, sym, refl, ap, ◌∙◌, subst, arith}
+use Rattle.std.proofs.Common.{◌≡◌, ℕ, zero, suc, ◌+◌, ◌-◌, ◌<◌, List, [], ◌∷◌, ◌++◌, take, Ok, Err, sym, refl, ap, ◌∙◌, subst, arith}
 use Rattle.job.specs.Actions.{Act}
 use Rattle.job.specs.Job.{State, later, step, run}
 use Rattle.mechanism.specs.declared.mechanism.Mechanism.{Ghosts}
 use Rattle.runs.specs.Outcomes.{Outcome, Command, Mechanism, outcome_later}
 use Rattle.runs.specs.Offers.{along}
 use Rattle.runs.specs.Feeds.{End, FeedsTo, takes, stuck, reads, refused, ends}
-use Rattle.runs.specs.FeedLaws.{Does, EndedThere, FeedsDoTheJob}
+use Rattle.runs.specs.FeedLaws.{Does, EndedThere}
 use Rattle.runs.specs.Whole.{BeginsWith, DoesInTurn}
 use Rattle.runs.proofs.Counts.{none_more, take_one}
 use Rattle.runs.proofs.Steps.{refused_orders_nothing}

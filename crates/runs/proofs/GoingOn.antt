@@ -1,5 +1,5 @@
 -- A feed has an end, and a run goes on whatever is asked.
-use Rattle.std.proofs.Common.{◌≡◌, ℕ, ◌+◌, ◌-◌, ◌<◌, ◌≤◌, Bool, true, false, ◌⊎◌, List, [], ◌∷◌, ◌++◌, Some, None, Ok, Err, Option, sym, refl, ap, ◌∙◌, subst, inl, inr, arith}
+use Rattle.std.proofs.Common.{◌≡◌, ℕ, ◌+◌, ◌-◌, ◌≤◌, Bool, true, false, ◌⊎◌, List, [], ◌∷◌, ◌++◌, Some, None, Ok, Err, Option, refl, ap, inl, inr, arith}
 use native.Mathlib.Decide.{dec_le}
 use Rattle.reading.specs.declared.Refusal.{Refusal}
 use Rattle.job.specs.Actions.{Act}
@@ -10,8 +10,8 @@ use Rattle.mechanism.specs.Refusals.{Barred, Free, is_reply}
 use Rattle.mechanism.specs.Statuses.{status_of}
 use Rattle.runs.specs.Outcomes.{Outcome, Command, Mechanism, refused_at_once, outcome_later}
 use Rattle.runs.specs.Count.{Count, counting, state_behind, Goes, acts, stuck, reads, refused, ends}
-use Rattle.runs.specs.Calls.{Call, fed, covered, supplied, status, settings, Choice, falls, grant, Counted, none, then_fed, then_covered, then_supplied, then_status, then_settings, Asked, to_feed, to_cover, to_supply, for_status, for_settings, all_asked}
-use Rattle.runs.specs.Choices.{FallsBy, ChosenBy}
+use Rattle.runs.specs.Calls.{fed, covered, supplied, status, settings, falls, grant, none, then_fed, then_covered, then_supplied, then_status, then_settings, Asked, to_feed, to_cover, to_supply, for_status, for_settings}
+use Rattle.runs.specs.Choices.{FallsBy}
 use Rattle.runs.specs.CountLaws.{GoesOn, RunsOn}
 
 module _ (need : Act → ℕ) (rule : Count → Act → ℕ) (within : (c : Count) (a : Act) → rule c a ≤ need a) where

@@ -1,5 +1,5 @@
 -- A feed has one end.
-use Rattle.std.proofs.Common.{◌≡◌, ℕ, ◌+◌, List, [], ◌∷◌, Ok, Err, sym, refl, ap, ◌∙◌, subst}
+use Rattle.std.proofs.Common.{◌≡◌, ℕ, List, [], ◌∷◌, Err, refl, ap, subst}
 use Rattle.reading.specs.declared.Refusal.{Refusal}
 use Rattle.job.specs.Actions.{Act}
 use Rattle.job.specs.Job.{State, step}

@@ -1,8 +1,8 @@
 -- Places counted from earlier bytes.
-use Rattle.std.proofs.Common.{◌≡◌, ℕ, ◌+◌, ℤ, pos, ◌+ℤ◌, Ok, Err, sym, refl, ap, ◌∙◌, arith}
+use Rattle.std.proofs.Common.{◌≡◌, ℕ, ◌+◌, ℤ, pos, Ok, Err, sym, refl, ap, ◌∙◌, arith}
 use lib.IntN.{+ℤ_idl, +ℤ_assoc}
 use Rattle.reading.specs.declared.Refusal.{Refusal}
-use Rattle.runs.specs.Outcomes.{Outcome, RefusedCommand, FeedFault, Command, Mechanism, outcome_later}
+use Rattle.runs.specs.Outcomes.{Outcome, Command, Mechanism, outcome_later}
 use Rattle.runs.specs.Feeds.{End, ended, later}
 
 abbrev at_place : Refusal → ℤ → Outcome

@@ -1,5 +1,5 @@
 -- Feeds along a stream, one after the other.
-use Rattle.std.proofs.Common.{◌≡◌, ℕ, ◌+◌, ◌-◌, ◌<◌, ◌≤◌, List, [], ◌∷◌, ◌++◌, length, take, drop, Ok, Err, sym, refl, ap, ◌∙◌, subst, ⊎_elim, append_assoc, append-nil, arith, length-append, length-drop, take-add}
+use Rattle.std.proofs.Common.{◌≡◌, ℕ, ◌+◌, ◌-◌, ◌<◌, List, [], ◌∷◌, ◌++◌, length, take, drop, sym, refl, ap, ◌∙◌, subst, ⊎_elim, append_assoc, append-nil, arith, length-append, length-drop, take-add}
 use lib.ListN.{length-map}
 use Rattle.std.proofs.lemmas.Bool.{cases_lt}
 use Rattle.job.specs.Actions.{Act}
@@ -7,11 +7,11 @@ use Rattle.job.specs.Job.{State, Run, Refused, run, later, followed_by}
 use Rattle.job.proofs.Runs.{run_append}
 use Rattle.mechanism.specs.declared.mechanism.Mechanism.{Ghosts}
 use Rattle.mechanism.specs.Mechanisms.{Taken}
-use Rattle.runs.specs.Outcomes.{Outcome, Command, Mechanism, told}
-use Rattle.runs.specs.Calls.{Call, fed}
-use Rattle.runs.specs.Offers.{Chain, Left}
+use Rattle.runs.specs.Outcomes.{Outcome, told}
+use Rattle.runs.specs.Calls.{fed}
+use Rattle.runs.specs.Offers.{Chain}
 use Rattle.runs.specs.Feeds.{ended, FeedsTo}
-use Rattle.runs.specs.Whole.{BeginsWith, DoesInTurn, FeedsAlong, none, then_fed, Passing, PassedTo, Passes}
+use Rattle.runs.specs.Whole.{BeginsWith, DoesInTurn, none, then_fed, Passing}
 use Rattle.runs.proofs.Doing.{feeds_in_turn}
 use Rattle.runs.proofs.Standing.{feed_keeps}
 

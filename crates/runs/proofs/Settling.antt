@@ -1,5 +1,5 @@
 -- Actions owed are offered, one after the other.
-use Rattle.std.proofs.Common.{◌≡◌, ℕ, List, [], ◌∷◌, ◌++◌, Ok, Err, sym, refl, ap, ◌∙◌, subst, append_assoc}
+use Rattle.std.proofs.Common.{◌≡◌, List, [], ◌∷◌, ◌++◌, Ok, Err, sym, refl, ap, ◌∙◌, subst, append_assoc}
 use Rattle.job.specs.Actions.{Act}
 use Rattle.mechanism.specs.declared.fault.Fault.{Fault}
 use Rattle.mechanism.specs.declared.mechanism.Mechanism.{Ghosts}

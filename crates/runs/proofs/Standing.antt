@@ -1,5 +1,5 @@
 -- Each call keeps a run standing.
-use Rattle.std.proofs.Common.{◌≡◌, ℕ, suc, ◌+◌, ◌-◌, ◌<◌, ◌≤◌, Bool, true, false, List, [], ◌∷◌, ◌++◌, take, Ok, Err, sym, refl, ap, ◌∙◌, subst, append_assoc, arith}
+use Rattle.std.proofs.Common.{◌≡◌, ℕ, ◌+◌, ◌-◌, ◌≤◌, Bool, List, [], ◌∷◌, ◌++◌, take, Err, sym, refl, ap, ◌∙◌, subst, append_assoc, arith}
 use mathlib.Core.List.{append_cancel_right}
 use Rattle.job.specs.Actions.{Act}
 use Rattle.job.specs.Printer.{Settings}
@@ -9,9 +9,9 @@ use Rattle.mechanism.specs.declared.status.Status.{Status}
 use Rattle.mechanism.specs.Counts.{counted}
 use Rattle.mechanism.specs.Mechanisms.{Moved, Covered, Supplied}
 use Rattle.mechanism.specs.Statuses.{status_of}
-use Rattle.runs.specs.Outcomes.{Outcome, Command, refused_at_once, outcome_later}
+use Rattle.runs.specs.Outcomes.{Outcome, Command, refused_at_once}
 use Rattle.runs.specs.Count.{Count, counting, state_behind, Goes, acts, stuck, reads, refused, ends}
-use Rattle.runs.specs.Calls.{Call, fed, covered, supplied, status, settings, Choice, falls, grant, Counted, none, then_fed, then_covered, then_supplied, then_status, then_settings, all_asked, bytes_taken}
+use Rattle.runs.specs.Calls.{Call, fed, covered, supplied, status, settings, Choice, falls, grant, Counted, none, then_fed, then_covered, then_supplied, then_status, then_settings, bytes_taken}
 use Rattle.runs.specs.Offers.{along, Chain}
 use Rattle.runs.specs.Feeds.{End, ended, FeedsTo}
 use Rattle.runs.specs.Feeds as course

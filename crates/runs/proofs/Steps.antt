@@ -5,7 +5,6 @@ use Rattle.reading.specs.Reading.{Reading, Meaning, more, done, refused, meaning
 use Rattle.reading.specs.Commands.{Command}
 use Rattle.reading.specs.Unfinished.{begun}
 use Rattle.job.specs.Actions.{Act}
-use Rattle.job.specs.Printer.{Printer}
 use Rattle.job.specs.Commands.{in_range}
 use Rattle.job.specs.Job.{State, Run, Refused, later, refused_here, carry_out, act_on, step, stay, followed_by, run_byte, run, new}
 use Rattle.job.proofs.Runs.{run_append}

@@ -1,7 +1,6 @@
 -- Refused commands are told, by number and place.
-use Rattle.std.proofs.Common.{◌≡◌, ℕ, suc, ◌+◌, ◌<◌, ◌≤◌, Bool, List, [], ◌∷◌, ◌++◌, length, take, ℤ, pos, ◌+ℤ◌, neg_ℤ, Some, None, Ok, Err, Option, sym, refl, ap, ◌∙◌, subst, arith, length-append}
+use Rattle.std.proofs.Common.{◌≡◌, ℕ, ◌+◌, ◌≤◌, List, [], ◌∷◌, ◌++◌, length, take, ℤ, pos, ◌+ℤ◌, neg_ℤ, Some, None, Ok, Err, Option, sym, refl, ap, ◌∙◌, subst, arith, length-append}
 use lib.IntN.{+ℤ_assoc, +ℤ_invr, +ℤ_idr}
-use Rattle.std.proofs.lemmas.List.{length_push}
 use Rattle.reading.specs.declared.Refusal.{Refusal}
 use Rattle.reading.specs.Reading.{Reading, text, reading_after}
 use Rattle.reading.specs.Unfinished.{begun, BegunBy}
@@ -12,7 +11,7 @@ use Rattle.job.proofs.Runs.{run_append}
 use Rattle.job.proofs.Reach.{run_reading}
 use Rattle.runs.specs.Outcomes.{Outcome, Command, Mechanism, refused_at_once, outcome_later, told, Placed}
 use Rattle.runs.specs.Count.{Count, state_behind, Goes, acts, stuck, reads, refused, ends}
-use Rattle.runs.specs.Calls.{Call, Choice, Counted, none, then_fed, then_covered, then_supplied, then_status, then_settings, bytes_taken, refusals_told}
+use Rattle.runs.specs.Calls.{none, then_fed, then_covered, then_supplied, then_status, then_settings, bytes_taken, refusals_told}
 use Rattle.runs.specs.CountLaws.{RefusalsAreTold, PlacesAreNear}
 use Rattle.runs.proofs.Counts.{take_one, joins}
 use Rattle.runs.proofs.Steps.{one_more}

@@ -1,5 +1,5 @@
 -- What the law forbids: ways to break a station, each at one run where the law is false of it.
-use Rattle.std.specs.Prelude.{ℕ, Bool, false, List, [], ◌∷◌, Ok}
+use Rattle.std.specs.Prelude.{ℕ, false, List, [], ◌∷◌, Ok}
 use Rattle.job.specs.Actions.{Act, beep}
 use Rattle.job.specs.Job.{State, new}
 use Rattle.runs.specs.Outcomes.{Outcome}

@@ -1,5 +1,5 @@
 -- What holds of the count of a run.
-use Rattle.std.specs.Prelude.{◌≡◌, ℕ, ◌≤◌, Bool, List, [], ◌∷◌, ◌++◌, length, take}
+use Rattle.std.specs.Prelude.{◌≡◌, ℕ, ◌≤◌, Bool, List, ◌∷◌, ◌++◌, length, take}
 use Rattle.job.specs.Actions.{Act}
 use Rattle.job.specs.Job.{run, new}
 use Rattle.runs.specs.Outcomes.{Outcome, Placed}

@@ -1,5 +1,5 @@
 -- How a run stands: an interpreter that began new, with one mechanism and nothing else.
-use Rattle.std.specs.Prelude.{◌≡◌, ℕ, Bool, List, [], ◌∷◌, ◌++◌}
+use Rattle.std.specs.Prelude.{◌≡◌, ℕ, Bool, List, ◌∷◌, ◌++◌}
 use Rattle.job.specs.Actions.{Act}
 use Rattle.job.specs.Job.{State, job}
 use Rattle.mechanism.specs.declared.mechanism.Mechanism.{Ghosts}

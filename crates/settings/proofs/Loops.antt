@@ -1,8 +1,8 @@
 -- Loops over lists of stops: a turn, an early end and the end.
-use Rattle.std.proofs.Common.{◌≡◌, ℕ, ◌+◌, ◌<◌, ◌≤◌, Bool, true, false, cond, ◌&&◌, ltb, leb, ◌⊎◌, List, [], ◌∷◌, ◌++◌, length, get_or, drop, replicate, sym, refl, ap, ◌∙◌, inl, inr}
-use Rattle.std.proofs.lemmas.List.{at_drop_more, at_drop_all, append_assoc, length-append, length-replicate, replicate_more}
-use Rattle.std.proofs.lemmas.Bool.{lt-ltb, le-ltb, le-leb, lt-leb, cond-true, cond-false}
-use Rattle.reading.specs.Tests.{between, every}
+use Rattle.std.proofs.Common.{◌≡◌, ℕ, ◌+◌, ◌<◌, ◌≤◌, Bool, true, false, ◌&&◌, ltb, List, length, get_or, drop, sym, ap, ◌∙◌}
+use Rattle.std.proofs.lemmas.List.{at_drop_more, at_drop_all}
+use Rattle.std.proofs.lemmas.Bool.{lt-ltb, le-ltb, cond-true, cond-false}
+use Rattle.reading.specs.Tests.{every}
 use Rattle.job.specs.Changes.{rising}
 use Rattle.job.specs.Row.{next_beyond}
 

@@ -18,9 +18,8 @@ use writer::writer::Writer;
 const USAGE: &str = "usage: simulate < SCRIPT
 
 Plays a script, a call a line, and prints each call with its answer and the state after it.
-  run plate                      begins a run with a new interpreter and this mechanism
-  run page LENGTH                the same with a page, or a text writer, and a buffer of so many bytes
-  run writer LENGTH
+  run plate | run page LENGTH    begins a run with a new interpreter and this mechanism
+  run writer LENGTH              the same with the text writer and a buffer of so many bytes
   feed HEX | feed -              feeds a piece of a stream
   cover open | cover closed
   supply N

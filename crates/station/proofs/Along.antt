@@ -1,9 +1,8 @@
 -- One feed more along a stream.
-use Rattle.std.proofs.Common.{◌≡◌, ℕ, ◌+◌, ◌-◌, ◌<◌, ◌≤◌, true, false, List, [], length, take, drop, Ok, Err, sym, refl, ap, ◌∙◌, subst, ⊎_elim, arith, length-drop}
+use Rattle.std.proofs.Common.{◌≡◌, ℕ, ◌+◌, ◌-◌, ◌<◌, ◌≤◌, true, false, List, length, take, drop, Ok, Err, sym, refl, ap, ◌∙◌, subst, ⊎_elim, arith, length-drop}
 use Rattle.std.proofs.lemmas.List.{take_all}
 use Rattle.std.proofs.lemmas.Bool.{both_ways, cases_lt}
-use Rattle.job.specs.Actions.{Act}
-use Rattle.job.specs.Job.{State, Refused, run}
+use Rattle.job.specs.Job.{Refused, run}
 use Rattle.mechanism.specs.declared.mechanism.Mechanism.{Ghosts}
 use Rattle.interpreter.specs.declared.Interpreter.{Interpreter}
 use Rattle.interpreter.specs.Interpreter.{owes, state_of}

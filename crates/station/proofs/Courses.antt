@@ -1,5 +1,5 @@
 -- How a feed goes, by what its parts do to the interpreter and the mechanism.
-use Rattle.std.proofs.Common.{◌≡◌, ℕ, ◌+◌, ◌<◌, ◌≤◌, List, [], length, get_or, Ok, Err, sym, subst}
+use Rattle.std.proofs.Common.{◌≡◌, ℕ, ◌+◌, ◌<◌, List, [], length, get_or, Ok, Err, sym, subst}
 use Rattle.job.specs.Job.{State}
 use Rattle.mechanism.specs.declared.fault.Fault.{Fault}
 use Rattle.mechanism.specs.declared.mechanism.Mechanism.{Ghosts}

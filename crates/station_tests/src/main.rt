@@ -1,5 +1,7 @@
 //! Drives the odd mechanism by the feed that serves every other: it starts stopped with a reserve of 600, needs 500 for a row,
 //! 52 for an advance of 25, 2 for a beep and 1 for a reply, spends half of it, and grants half of an offer.
+#![tactic(auto)]
+
 use mechanism::mechanism::Mechanism;
 use odd_mechanism::odd::OddMechanism;
 use station::station::Station;

@@ -1,14 +1,14 @@
 -- Behind a part text is read again, unless the part is unfinished.
-use Rattle.std.proofs.Common.{◌≡◌, ℕ, zero, suc, ◌+◌, ◌-◌, ◌<◌, ◌≤◌, min, Bool, true, false, cond, ◌≢◌, List, [], ◌∷◌, ◌++◌, length, take, sym, refl, ap, ◌∙◌, subst, arith, length-append}
+use Rattle.std.proofs.Common.{◌≡◌, ℕ, zero, suc, ◌+◌, ◌-◌, ◌≤◌, min, Bool, true, false, cond, ◌≢◌, List, [], ◌∷◌, ◌++◌, length, take, sym, refl, ap, ◌∙◌, subst, arith, length-append}
 use Rattle.std.specs.List.{prefix_len}
 use Rattle.reading.specs.Commands.{print}
 use Rattle.reading.specs.Tests.{find}
 use Rattle.reading.specs.Reading.{Reading, text, Meaning, more, done, refused, complete, unknown, is_text, single_bytes, meaning, next_reading, reading_after}
 use Rattle.reading.specs.Unfinished.{begun}
 use Rattle.reading.proofs.Within.{Within, Moves, moves}
-use Rattle.stream.specs.declared.parts.Kind.TheVariants.{Text, Control, Command, Refused, Unfinished}
+use Rattle.stream.specs.declared.parts.Kind.TheVariants.{Text}
 use Rattle.stream.specs.declared.parts.Extent.{Extent}
-use Rattle.stream.specs.Parts.{extent, read_on, first, part}
+use Rattle.stream.specs.Parts.{extent, read_on, part}
 use Rattle.stream.specs.Laws.{Leaves}
 use Rattle.stream.proofs.Agree.{by_meaning}
 use Rattle.stream.proofs.Description.{by_first}

@@ -1,5 +1,5 @@
 -- How a command ends, told by what is awaited behind its code and the bytes that follow, all at once.
-use Rattle.std.proofs.Common.{◌≡◌, ℕ, zero, suc, ◌+◌, ◌-◌, ◌<◌, ◌≤◌, Bool, true, false, cond, eqb, leb, List, [], ◌∷◌, ◌++◌, length, replicate, sym, refl, ap, ◌∙◌, subst, append_assoc, arith, length-append}
+use Rattle.std.proofs.Common.{◌≡◌, ℕ, ◌+◌, ◌-◌, ◌<◌, ◌≤◌, Bool, true, false, cond, eqb, leb, List, [], ◌∷◌, ◌++◌, length, replicate, sym, refl, ap, ◌∙◌, append_assoc, arith, length-append}
 use Rattle.std.specs.List.{AllByRecursion as All}
 use Rattle.std.proofs.lemmas.List.{length-replicate, nil_from_length, append-nil}
 use Rattle.std.proofs.lemmas.Bool.{leb-true, leb-false, eqb-true, eqb-false}
@@ -8,10 +8,9 @@ use Rattle.stream.specs.declared.parts.Kind.TheVariants as kind
 use Rattle.stream.specs.declared.parts.Extent.{Extent}
 use Rattle.stream.specs.declared.parts.Awaited.{Awaited}
 use Rattle.stream.specs.declared.parts.Awaited.TheVariants.{Text, EscapeCode, GroupCode, Bytes, List as ListOf}
-use Rattle.stream.specs.declared.parts.Progress.{Progress}
 use Rattle.stream.specs.declared.parts.Progress.TheVariants.{More, Complete, Refused}
 use Rattle.stream.specs.Parts.{extent}
-use Rattle.stream.specs.Awaited.{progress, follow}
+use Rattle.stream.specs.Awaited.{follow}
 use Rattle.stream.specs.Described.{WholeList, OverlongList, Completes, Passes, Begins}
 use Rattle.stream.proofs.Agree.{by_progress, last_byte, byte_of_more, before_list, list_byte, list_past}
 

@@ -1,18 +1,17 @@
 -- The parts of a stream join to it.
-use Rattle.std.proofs.Common.{◌≡◌, ℕ, zero, suc, ◌+◌, ◌-◌, ◌<◌, ◌≤◌, min, Bool, true, false, cond, leb, ◌≢◌, ◌↔◌, List, [], ◌∷◌, ◌++◌, length, take, drop, Some, None, Option, sym, refl, ap, ◌∙◌, subst, arith}
+use Rattle.std.proofs.Common.{◌≡◌, ℕ, zero, suc, ◌+◌, ◌<◌, ◌≤◌, min, Bool, true, false, cond, leb, ◌≢◌, ◌↔◌, List, [], ◌∷◌, ◌++◌, length, drop, Some, None, Option, sym, refl, ap, ◌∙◌, subst, arith}
 use Rattle.std.specs.List.{flat_map, prefix_len, AllByRecursion as All}
-use Rattle.std.proofs.lemmas.List.{length-take-le, length-drop, take-append-drop, take_all, drop-drop, drop_all}
+use Rattle.std.proofs.lemmas.List.{length-take-le, length-drop, take-append-drop, drop-drop, drop_all}
 use Rattle.std.proofs.lemmas.List.Sums.{prefix_len-le-length}
 use Rattle.std.proofs.lemmas.Bool.{leb-true, leb-false, le-leb, lt-leb, cond-true, cond-false}
 use Rattle.reading.specs.Reading.{Meaning, more, done, refused, text, meaning, is_text, reading_after}
-use Rattle.stream.specs.declared.parts.Kind.TheVariants.{Text, Control, Command, Refused, Unfinished}
-use Rattle.stream.specs.declared.parts.Extent.{Extent}
+use Rattle.stream.specs.declared.parts.Kind.TheVariants.{Text, Unfinished}
 use Rattle.stream.specs.Awaited.{awaited}
-use Rattle.stream.specs.Parts.{extent, first, Part, a_part, part, part_at, Parts, none, next}
+use Rattle.stream.specs.Parts.{extent, first, Part, part, part_at, Parts, none, next}
 use Rattle.stream.specs.Described.{Described, text_run, control, unknown_byte, no_code, pair, unknown_pair, whole, overlong, cut_short}
 use Rattle.stream.specs.Laws.{bytes_of, Sized, UnfinishedLast, Leaves, Laws}
-use Rattle.stream.proofs.Apart.{Bounded, read_on_bounded, part_leaves}
-use Rattle.stream.proofs.Description.{by_first, coded, describe, Determined, determine}
+use Rattle.stream.proofs.Apart.{read_on_bounded, part_leaves}
+use Rattle.stream.proofs.Description.{by_first, coded, describe, determine}
 use Rattle.stream.proofs.Followed.{complete_fits, overlong_fits, begun_fits}
 
 -- a part has no more bytes than there are

@@ -1,5 +1,5 @@
 -- What token answers.
-use Rattle.std.specs.Prelude.{ℕ, ◌+◌, ◌≤◌, Bool, true, false, cond, List, length, IfSome, IfOk, Ok, Err, Option, Result, nat_lt}
+use Rattle.std.specs.Prelude.{ℕ, ◌+◌, ◌≤◌, Bool, cond, List, length, IfSome, IfOk, Ok, Err, Option, Result, nat_lt}
 use Rattle.std.specs.Option.{option_map}
 use Rattle.stream.specs.declared.parts.Kind.TheVariants as kind
 use Rattle.stream.specs.declared.parts.Token.{Token}

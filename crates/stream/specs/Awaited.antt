@@ -1,5 +1,5 @@
 -- What is still awaited of a command, without the bytes that have come.
-use Rattle.std.specs.Prelude.{ℕ, ◌+◌, ◌-◌, Bool, true, false, cond, List, [], ◌∷◌, length, ◌==◌, nat_le}
+use Rattle.std.specs.Prelude.{ℕ, ◌+◌, ◌-◌, cond, List, [], ◌∷◌, length, ◌==◌, nat_le}
 use Rattle.reading.specs.Reading.{Reading, text, escape, group, parameter, repeat_what, repeat_count, bar_parameters, bar_string, vertical_list, horizontal_list, body, Meaning, more, done, refused, meaning}
 use Rattle.stream.specs.declared.parts.Kind.TheVariants as kind
 use Rattle.stream.specs.declared.parts.Extent.{Extent}

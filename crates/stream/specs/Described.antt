@@ -1,8 +1,8 @@
 -- What a part is, told without reading byte by byte.
-use Rattle.std.specs.Prelude.{◌≡◌, ℕ, ◌+◌, ◌≤◌, Bool, true, false, ◌⊎◌, List, [], ◌∷◌, ◌++◌, length}
+use Rattle.std.specs.Prelude.{◌≡◌, ℕ, ◌+◌, ◌≤◌, true, false, ◌⊎◌, List, [], ◌∷◌, ◌++◌, length}
 use Rattle.std.specs.List.{AllByRecursion as All}
 use Rattle.reading.specs.Commands.{Command as Order}
-use Rattle.reading.specs.Reading.{Reading, text, Meaning, more, done, refused, meaning, is_text}
+use Rattle.reading.specs.Reading.{Reading, text, more, done, refused, meaning, is_text}
 use Rattle.reading.specs.declared.Refusal.{Refusal}
 use Rattle.stream.specs.declared.parts.Kind.TheVariants.{Text, Control, Command, Refused, Unfinished}
 use Rattle.stream.specs.declared.parts.Awaited.{Awaited}

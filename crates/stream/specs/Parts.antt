@@ -1,7 +1,7 @@
 -- The parts of a stream: text, single bytes, complete commands, refused ones, and an unfinished tail.
-use Rattle.std.specs.Prelude.{◌≡◌, ℕ, ◌+◌, min, Bool, true, false, cond, List, [], ◌∷◌, length, take, drop, Some, None, Option, nat_le}
+use Rattle.std.specs.Prelude.{◌≡◌, ℕ, ◌+◌, min, cond, List, [], ◌∷◌, length, take, drop, Some, None, Option, nat_le}
 use Rattle.std.specs.List.{prefix_len}
-use Rattle.reading.specs.Reading.{Reading, text, Meaning, more, done, refused, meaning, is_text}
+use Rattle.reading.specs.Reading.{Reading, text, more, done, refused, meaning, is_text}
 use Rattle.stream.specs.declared.parts.Kind.{Kind}
 use Rattle.stream.specs.declared.parts.Kind.TheVariants.{Text, Control, Command, Refused, Unfinished}
 use Rattle.stream.specs.declared.parts.Extent.{Extent}

@@ -1,7 +1,6 @@
 -- The writer keeps the laws of mechanisms.
-use Rattle.std.specs.Prelude.{ℕ, List, ◌++◌, drop}
+use Rattle.std.specs.Prelude.{◌++◌, drop}
 use Rattle.std.proofs.Common.{arith}
-use Rattle.job.specs.Actions.{Act}
 use Rattle.job.specs.NormalText.{action_text}
 use Rattle.mechanism.specs.Counts.{leading_counts}
 use Rattle.mechanism.specs.Mechanisms.{Laws}

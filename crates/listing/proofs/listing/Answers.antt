@@ -1,7 +1,7 @@
-use Rattle.std.proofs.Common.{◌≡◌, ℕ, ◌+◌, ◌≤◌, List, ◌++◌, length, Some, None, Ok, vec_items, Option, Result, sym, ap, ◌∙◌, subst, arith}
+use Rattle.std.proofs.Common.{◌≡◌, ℕ, ◌+◌, length, Some, None, Ok, vec_items, Option, sym, ap, ◌∙◌, subst, arith}
 use Rattle.std.specs.Option.{option_map}
 use Rattle.stream.specs.declared.parts.Token.{Token}
-use Rattle.stream.specs.Answers.{part_of, token_answer, too_long}
+use Rattle.stream.specs.Answers.{part_of}
 use Rattle.stream.specs.Parts.{Part, part_at}
 use Rattle.stream.proofs.Answered.{from_ok, some_within}
 use Rattle.stream.proofs.Whole.{from_some}

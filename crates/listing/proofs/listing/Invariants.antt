@@ -1,4 +1,4 @@
-use Rattle.std.proofs.Common.{◌≡◌, ℕ, ◌-◌, ◌≤◌, List, ◌++◌, length, vec_items}
+use Rattle.std.proofs.Common.{ℕ, ◌-◌, ◌≤◌, List, ◌++◌, length, vec_items}
 use Rattle.listing.specs.Listed.{Listed}
 use Rattle.listing.proofs.listing.Given as goal
 

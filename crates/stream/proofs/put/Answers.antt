@@ -1,4 +1,4 @@
-use Rattle.std.proofs.Common.{◌+◌, ◌-◌, length, arith}
+use Rattle.std.proofs.Common.{arith}
 use Rattle.stream.proofs.Placed.{laid}
 use Rattle.stream.proofs.put.Goals as goal
 

@@ -1,4 +1,4 @@
-use Rattle.std.proofs.Common.{◌≡◌, ℕ, ◌+◌, ◌*◌, List, length, sym, ap, ◌∙◌, arith}
+use Rattle.std.proofs.Common.{ℕ, List, ap, ◌∙◌, arith}
 use Rattle.stream.specs.Lines.{placed}
 use Rattle.stream.proofs.Placed.{head_is, line_length, line_whole}
 use Rattle.stream.proofs.put_line.Goals as goal

@@ -1,4 +1,4 @@
-use Rattle.std.proofs.Common.{◌≡◌, ℕ, ◌+◌, ◌≤◌, [], ◌∷◌, length, take, sym, ap, ◌∙◌, arith, length-append, length-take}
+use Rattle.std.proofs.Common.{◌≡◌, ◌+◌, ◌≤◌, [], ◌∷◌, length, take, sym, ap, ◌∙◌, arith, length-append, length-take}
 use Rattle.action.specs.declared.bars.Bars.{Bars}
 use Rattle.action.specs.declared.actions.Action.TheVariants as action
 use Rattle.action.specs.Meanings.{act_of}

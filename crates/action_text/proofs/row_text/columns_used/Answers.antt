@@ -1,7 +1,5 @@
-use Rattle.std.proofs.Common.{◌≡◌, ◌-◌, ◌≤◌, true, false, length, get_or, sym, ap, ◌∙◌, arith}
+use Rattle.std.proofs.Common.{length, sym, ap, ◌∙◌, arith}
 use Rattle.std.proofs.lemmas.List.{take_all}
-use Rattle.job.specs.declared.cells.Cell.TheVariants.{Blank}
-use Rattle.job.specs.Row.{is_blank}
 use Rattle.job.specs.NormalText.{up_to_last}
 use Rattle.action_text.proofs.Columns.{fewer, enough}
 use Rattle.action_text.proofs.row_text.columns_used.Goals as goal

@@ -1,4 +1,4 @@
-use Rattle.std.proofs.Common.{◌≡◌, ℕ, ◌+◌, ◌≤◌, List, map, length, ap, ◌∙◌, arith}
+use Rattle.std.proofs.Common.{◌≡◌, ◌+◌, map, length, ap, ◌∙◌, arith}
 use lib.ListN.{length-map}
 use Rattle.mechanism.proofs.Appending.{next, placed, placed_length}
 use Rattle.page.specs.Pictures.{character_of, four_bytes}

@@ -4,7 +4,7 @@ use Rattle.job.specs.Actions.{Act}
 use Rattle.job.proofs.Feeds.{advances}
 use Rattle.action.specs.Meanings.{row_acts}
 use Rattle.printer.specs.Printer.{printer_of}
-use Rattle.printer.proofs.Wraps.{Spaced, spaced_none, spaced_more}
+use Rattle.printer.proofs.Wraps.{Spaced, spaced_more}
 use Rattle.printer.proofs.Printer.spaces.Goals as goal
 
 pub put_space-feeds-requires : goal.put_space-feeds-requires

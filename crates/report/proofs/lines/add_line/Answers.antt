@@ -1,4 +1,4 @@
-use Rattle.std.proofs.Common.{◌≡◌, [], ◌∷◌, ◌++◌, vec_items, ap, ◌∙◌, append_assoc, arith}
+use Rattle.std.proofs.Common.{[], ◌∷◌, ◌++◌, vec_items, ap, ◌∙◌, append_assoc, arith}
 use Rattle.hexadecimal.specs.Digits.{encoded}
 use Rattle.job.specs.NormalText.{action_text}
 use Rattle.action.specs.Meanings.{act_of}

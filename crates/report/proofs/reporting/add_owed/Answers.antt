@@ -1,6 +1,6 @@
 use Rattle.std.proofs.Common.{◌≡◌, ◌∷◌, ◌++◌, vec_items, sym, ap, ◌∙◌, append_assoc}
 use Rattle.action.specs.Meanings.{act_of}
-use Rattle.interpreter.specs.Interpreter.{owes, state_of}
+use Rattle.interpreter.specs.Interpreter.{owes}
 use Rattle.report.specs.Reports.{action_line, action_lines}
 use Rattle.report.proofs.reporting.add_owed.Goals as goal
 

@@ -1,4 +1,4 @@
-use Rattle.std.proofs.Common.{◌≡◌, [], ◌∷◌, ◌++◌, map, vec_items, sym, ap, ◌∙◌}
+use Rattle.std.proofs.Common.{[], ◌∷◌, ◌++◌, map, vec_items, sym, ap, ◌∙◌}
 use mathlib.Core.List.{map-append}
 use Rattle.report.specs.Reports.{refused_of, refused_list}
 use Rattle.report.proofs.reporting.add_refused.Goals as goal

@@ -1,4 +1,3 @@
-use Rattle.interpreter.specs.Interpreter.{owes, state_of}
 use Rattle.runs.proofs.Standing.{feed_keeps}
 use Rattle.station.proofs.feeding.feed.Goals as goal
 

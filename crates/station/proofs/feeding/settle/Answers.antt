@@ -1,6 +1,6 @@
 use Rattle.std.proofs.Common.{◌≡◌, ◌∷◌, Err, sym, refl, ap, ◌∙◌, subst}
 use Rattle.action.specs.Meanings.{act_of}
-use Rattle.interpreter.specs.Interpreter.{owes, state_of}
+use Rattle.interpreter.specs.Interpreter.{owes}
 use Rattle.runs.proofs.Settling.{settling_none, settling_more, settling_ends, settling_stuck}
 use Rattle.runs.proofs.Exits.{at_exit}
 use Rattle.runs.specs.Offers.{Settled}

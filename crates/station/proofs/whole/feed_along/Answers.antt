@@ -1,4 +1,4 @@
-use Rattle.std.proofs.Common.{◌≡◌, ℕ, ◌+◌, ◌-◌, ◌<◌, length, sym, ap, ◌∙◌, subst, arith}
+use Rattle.std.proofs.Common.{ℕ, sym, subst, arith}
 use Rattle.interpreter.specs.Interpreter.{owes, state_of}
 use Rattle.runs.specs.Whole.{Passing}
 use Rattle.runs.proofs.Passing.{passing_none}

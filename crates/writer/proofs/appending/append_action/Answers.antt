@@ -1,8 +1,5 @@
-use Prim.Native.Nat.{ℕ, ◌+◌, ◌≤◌}
 use native.Mathlib.Omega.{arith}
-use lib.ListN.{length, take, drop}
 use Rattle.job.specs.NormalText.{action_text}
-use Rattle.action.specs.declared.actions.Action.{Action}
 use Rattle.action.specs.Meanings.{act_of}
 use Rattle.action.proofs.Lawful.{lawful}
 use Rattle.action_text.proofs.Sizes.{texts_fit}
