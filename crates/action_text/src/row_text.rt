@@ -1,7 +1,7 @@
 //! The text of a row.
 ghost use Rattle.std.specs.Prelude.{◌≡◌, ◌+◌, ◌≤◌, [], ◌∷◌, ◌++◌, length, take};
 ghost use Rattle.job.specs.Actions.{plain, row};
-ghost use Rattle.job.specs.NormalText.{flag as flagOf, mode_bits, attribute_change, cells_text, up_to_last, action_text};
+ghost use Rattle.job.specs.NormalText.{flag as flag_of, mode_bits, attribute_change, cells_text, up_to_last, action_text};
 ghost use Rattle.mechanism.specs.Buffers.{Appended};
 ghost use Rattle.action_text.specs.RowTexts.{cell_text, attributes_after};
 
@@ -10,7 +10,7 @@ use job::cells::{Attributes, Cell};
 
 /// 1 for on, 0 for off.
 pub fn flag(on: bool) -> u8
-    ensures { result ≡ flagOf on }
+    ensures { result ≡ flag_of on }
 {
     if on { 1 } else { 0 }
 }

@@ -1,7 +1,7 @@
 -- Bytes written in hexadecimal: two digits each, 0 to 9 and A to F, nothing between them.
 use Rattle.std.specs.Prelude.{◌≡◌, ℕ, ◌+◌, ◌-◌, ◌*◌, ◌/◌, ◌%◌, ◌<◌, cond, ◌&&◌, List, [], ◌∷◌, Some, None, Option, nat_le, nat_lt}
 use Rattle.std.specs.Option.{option_map}
-use Rattle.std.specs.List.{flat_map, AllByRecursion as All}
+use Rattle.std.specs.List.{flat_map, AllByRecursion}
 use Rattle.hexadecimal.specs.declared.fault.HexFault.{HexFault}
 use Rattle.hexadecimal.specs.declared.fault.HexFault.TheVariants.{NotHexadecimal, OutOfMemory}
 
@@ -48,4 +48,4 @@ encoded = flat_map two_digits
 
 -- bytes in hexadecimal are decoded to those bytes
 abbrev pub EncodesBack : Type 0
-EncodesBack = (bytes : List ℕ) → All (λ b. b < 256) bytes → decoded (encoded bytes) ≡ Some bytes
+EncodesBack = (bytes : List ℕ) → AllByRecursion (λ b. b < 256) bytes → decoded (encoded bytes) ≡ Some bytes

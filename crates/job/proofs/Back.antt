@@ -1,6 +1,6 @@
 -- Every job that a stream can order is read back from its text.
 use Rattle.std.proofs.Common.{◌≡◌, ℕ, List, [], ◌∷◌, length, refl, ap, ◌∙◌}
-use Rattle.std.specs.List.{AllByRecursion as All}
+use Rattle.std.specs.List.{AllByRecursion}
 use Rattle.job.specs.Actions.{Act, row, advance, bars, total_cut, partial_cut, pulse, beep, reply}
 use Rattle.job.specs.Job.{Run, run, followed_by, resting, job}
 use Rattle.job.specs.NormalText.{action_text, job_text}
@@ -30,7 +30,7 @@ read_before_others a line t h =
     run_append (action_text a) (resting line) t
     ∙ ap (λ (r : Run). followed_by r (length (action_text a)) (run r.state t)) (act_read a line h)
 
-pub job_back : (acts : List Act) → All Orderable acts → job (job_text acts) ≡ acts
+pub job_back : (acts : List Act) → AllByRecursion Orderable acts → job (job_text acts) ≡ acts
 job_back acts h = ap (λ (r : Run). r.acts) (read_back acts 1 h)
 
 pub by_its_text : (a : Act) → Orderable a → job (action_text a) ≡ a ∷ []

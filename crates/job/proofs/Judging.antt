@@ -1,6 +1,6 @@
 -- Bar codes and cuts.
 use Rattle.std.proofs.Common.{◌≡◌, ℕ, ◌≤◌, Bool, true, false, cond, ◌||◌, eqb, List, [], ◌∷◌, ◌++◌, length, replicate, Some, None, Option, sym, refl, ap, ◌∙◌, subst, append-nil, arith}
-use Rattle.std.specs.List.{AllByRecursion as All}
+use Rattle.std.specs.List.{AllByRecursion}
 use Rattle.reading.specs.Tests.{between}
 use Rattle.job.specs.declared.bars.Verdict.TheVariants as verdicts
 use Rattle.job.specs.Actions.{Act}
@@ -26,7 +26,7 @@ judged p n1 n2 n3 n4 s k v a b i j = rw (a, b, i, j)
 
 -- a whole command, by its verdict
 by_verdict : (p : Printer) (n1 n2 n3 n4 : ℕ) (s : List ℕ) (k : Option BarKind) (v : Verdict)
-    → (eqb n2 0 || between 2 5 n2) ≡ true → (eqb n3 0 || between 50 200 n3) ≡ true → All (λ b. 1 ≤ b) s → length s ≤ 25 → kind_of n1 ≡ k → verdict k s ≡ v
+    → (eqb n2 0 || between 2 5 n2) ≡ true → (eqb n3 0 || between 50 200 n3) ≡ true → AllByRecursion (λ b. 1 ≤ b) s → length s ≤ 25 → kind_of n1 ≡ k → verdict k s ≡ v
     → let e : Effect = judge v (bars_of k (or_default 2 n2) (or_default 50 n3) (eqb n4 1) s) p in
     Reads (between_commands p) (bar_command n1 n2 n3 n4 s) e.acts (between_commands e.printer)
 by_verdict p n1 n2 n3 n4 s k v a b h l i j =

@@ -1,7 +1,7 @@
 -- A sound interpreter stays sound, and orders what is orderable.
 use Rattle.std.proofs.Common.{◌≡◌, ℕ, zero, suc, ◌+◌, ◌-◌, ◌<◌, ◌≤◌, Bool, true, false, cond, ◌&&◌, ◌||◌, eqb, ltb, leb, List, [], ◌∷◌, ◌++◌, map, length, get_or, take, replicate, Some, None, Option, sym, refl, ap, ◌∙◌, arith, lit≤, length-append, length-take}
 use lib.ListN.{length-replicate}
-use Rattle.std.specs.List.{AllByRecursion as All}
+use Rattle.std.specs.List.{AllByRecursion}
 use Rattle.std.proofs.lemmas.Bool.{and_parts, leb-true, ltb-true, eqb-true, eqb-false, cond_both}
 use Rattle.std.proofs.ByRecursion.{All-append}
 use Rattle.reading.specs.declared.Reply.TheVariants.{Configuration}
@@ -56,14 +56,14 @@ emptied_kept p h = with_row_kept p (replicate (p.settings.margins.left - 1) Blan
 close_kept : Keeps close
 close_kept p h = (go (every is_blank (map closed_cell p.row)) refl, emptied_kept p h)
   where
-    go : (b : Bool) → every is_blank (map closed_cell p.row) ≡ b → All Orderable (cond b [] (row (padded (map closed_cell p.row)) ∷ []))
+    go : (b : Bool) → every is_blank (map closed_cell p.row) ≡ b → AllByRecursion Orderable (cond b [] (row (padded (map closed_cell p.row)) ∷ []))
     go true e = tt
     go false e = (closed_orderable p.row h.row.laid_out (omega (arith, h.row.within, h.margins.at_most)) e, tt)
 
 advance_kept : (n : ℕ) → n ≤ 255 → Keeps (advance_by n)
 advance_kept n small p h = (go (eqb n 0) refl, h)
   where
-    go : (b : Bool) → eqb n 0 ≡ b → All Orderable (cond b [] (advance n ∷ []))
+    go : (b : Bool) → eqb n 0 ≡ b → AllByRecursion Orderable (cond b [] (advance n ∷ []))
     go true e = tt
     go false e = ((above (eqb-false n 0 e), small), tt)
       where
@@ -312,7 +312,7 @@ repeat_kept what n = times_kept n (cond (eqb what 0) (put false 0x20) feed_line)
     go true = put_kept false 0x20 refl
     go false = feed_line_kept
 
-replied : (b : Bool) (a : Act) → Orderable a → All Orderable (cond b (a ∷ []) [])
+replied : (b : Bool) (a : Act) → Orderable a → AllByRecursion Orderable (cond b (a ∷ []) [])
 replied true a o = (o, tt)
 replied false a o = tt
 

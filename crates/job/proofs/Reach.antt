@@ -1,6 +1,6 @@
 -- What holds of a new interpreter holds behind every stream.
 use Rattle.std.proofs.Common.{◌≡◌, ℕ, ◌<◌, ◌≤◌, Bool, true, false, cond, eqb, ltb, List, [], ◌∷◌, ◌++◌, length, sym, refl, ap, ◌∙◌, subst, arith, lit≤}
-use Rattle.std.specs.List.{AllByRecursion as All}
+use Rattle.std.specs.List.{AllByRecursion}
 use Rattle.std.proofs.lemmas.Bool.{ltb-true, cond_both}
 use Rattle.std.proofs.lemmas.List.{length_push}
 use Rattle.std.proofs.ByRecursion.{All-append}
@@ -22,18 +22,18 @@ use Rattle.job.proofs.Kept.{effect_kept, new_stops, no_stops}
 
 -- reading
 
-find_sound : (table : List (ℕ × Meaning)) (b : ℕ) → All (λ e. SoundMeaning e.1) table → SoundMeaning (find unknown table b)
+find_sound : (table : List (ℕ × Meaning)) (b : ℕ) → AllByRecursion (λ e. SoundMeaning e.1) table → SoundMeaning (find unknown table b)
 find_sound [] b h = tt
 find_sound (e ∷ table) b h =
     cond_both (eqb e.0 b) e.1 (find unknown table b) SoundMeaning (λ k. h.0) (λ k. find_sound table b h.1)
 
-single_sound : All (λ e. SoundMeaning e.1) single_bytes
+single_sound : AllByRecursion (λ e. SoundMeaning e.1) single_bytes
 single_sound = ((tt, tt), ((tt, tt), (tt, (tt, ((tt, tt), ((tt, tt), ((tt, tt), ((tt, tt), ((tt, tt), ((tt, tt), ((tt, tt), ((tt, tt), ((tt, tt), ((tt, tt), ((tt, tt), ((tt, tt), tt))))))))))))))))
 
-group_sound : All (λ e. SoundMeaning e.1) group_codes
+group_sound : AllByRecursion (λ e. SoundMeaning e.1) group_codes
 group_sound = ((tt, tt), tt)
 
-escape_sound : All (λ e. SoundMeaning e.1) escape_codes
+escape_sound : AllByRecursion (λ e. SoundMeaning e.1) escape_codes
 escape_sound = (
   (tt, tt),
   (
@@ -148,11 +148,11 @@ act_on_sound (done c r) p k h = go (in_range c p) refl
     go false e = (tt, (k.1, h))
 act_on_sound (refused why r) p k h = (tt, (k, h))
 
-run_sound : (s : List ℕ) (st : State) → SoundState st → Bytes s → All Orderable (run st s).acts × SoundState (run st s).state
+run_sound : (s : List ℕ) (st : State) → SoundState st → Bytes s → AllByRecursion Orderable (run st s).acts × SoundState (run st s).state
 run_sound [] st h k = (tt, h)
 run_sound (b ∷ s) st h k =
     let t : SoundStep (step st b) = act_on_sound (meaning st.reading b) st.printer (meaning_sound st.reading b h.0 k.0) h.1 in
-    let r : All Orderable (run (step st b).next s).acts × SoundState (run (step st b).next s).state = run_sound s (step st b).next t.1 k.1 in
+    let r : AllByRecursion Orderable (run (step st b).next s).acts × SoundState (run (step st b).next s).state = run_sound s (step st b).next t.1 k.1 in
     (All-append Orderable (step st b).acts (run (step st b).next s).acts t.0 r.0, r.1)
 
 new_sound : SoundState new

@@ -1,6 +1,6 @@
 -- What one byte orders: at most one row, then equal advances, then at most one other action.
 use Rattle.std.proofs.Common.{◌≡◌, ℕ, zero, suc, ◌-◌, ◌≤◌, Bool, true, false, cond, ◌&&◌, ◌||◌, eqb, List, [], ◌∷◌, ◌++◌, map, length, get_or, replicate, Some, None, Option, sym, refl, ap, ◌∙◌, subst, append_assoc, append-nil, lit≤}
-use Rattle.std.specs.List.{AllByRecursion as All}
+use Rattle.std.specs.List.{AllByRecursion}
 use Rattle.std.proofs.lemmas.List.{map-append}
 use Rattle.reading.specs.Tests.{every}
 use Rattle.reading.specs.Commands.{Command, idle, print, send, sound_beep, pulse_drawer, line_feed, vertical_tab, form_feed, horizontal_tab, cancel_row, delete, attributes_off, set_emphasised, set_one_line_width, set_expanded, set_double_height, set_underline, set_italic, set_print_mode, set_spacing, feed_steps, repeat, set_page_length, set_vertical_stops, set_horizontal_stops, set_left_margin, set_right_margin, cut, bar_code, configure, reset}
@@ -138,7 +138,7 @@ advances_count k steps = go (eqb steps 0)
     go false = refl
 
 -- a closed row, equal advances, and some other actions
-shaped : (acts : List Act) (r : List Cell) (k steps : ℕ) (others : List Act) → length others ≤ 1 → All Other others
+shaped : (acts : List Act) (r : List Cell) (k steps : ℕ) (others : List Act) → length others ≤ 1 → AllByRecursion Other others
     → acts ≡ closing r ++ (advances k steps ++ others) → InOrder acts
 shaped acts r k steps others few other e = record {
   rows = closed_rows r;
@@ -161,7 +161,7 @@ none_shaped = shaped [] [] 0 0 [] (lit≤ tt) tt refl
 one_shaped : (a : Act) → Other a → InOrder (a ∷ [])
 one_shaped a o = shaped (a ∷ []) [] 0 0 (a ∷ []) (lit≤ tt) (o, tt) refl
 
-closed_then : (r : List Cell) (others : List Act) → length others ≤ 1 → All Other others → InOrder (closing r ++ others)
+closed_then : (r : List Cell) (others : List Act) → length others ≤ 1 → AllByRecursion Other others → InOrder (closing r ++ others)
 closed_then r others few other = shaped (closing r ++ others) r 0 0 others few other refl
 
 -- every command

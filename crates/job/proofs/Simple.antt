@@ -1,6 +1,6 @@
 -- The texts of the actions other than rows, read between two texts.
 use Rattle.std.proofs.Common.{◌≡◌, ℕ, ◌+◌, ◌<◌, ◌≤◌, Bool, true, false, eqb, leb, List, [], ◌∷◌, ◌++◌, length, Some, sym, refl, ap, ◌∙◌, append_assoc, append-nil, arith}
-use Rattle.std.specs.List.{AllByRecursion as All}
+use Rattle.std.specs.List.{AllByRecursion}
 use Rattle.std.proofs.lemmas.Bool.{ne_eqb, le-leb, lt-ltb, and_from}
 use Rattle.std.proofs.lemmas.List.{length_push}
 use Rattle.std.proofs.ByRecursion.{All-weaker}
@@ -54,7 +54,7 @@ in_string p ps got = record { reading = bar_string ps got; printer = p }
 string_byte : (p : Printer) (ps got : List ℕ) (b : ℕ) → 1 ≤ b → length got < 25 → Reads (in_string p ps got) (b ∷ []) [] (in_string p ps (got ++ b ∷ []))
 string_byte p ps got b h k = rw (ne_eqb b 0 (λ e. omega arith), lt-ltb (length got) 25 k)
 
-pub string_read : (p : Printer) (ps got s : List ℕ) → All (λ b. 1 ≤ b) s → length got + length s ≤ 25 → Reads (in_string p ps got) s [] (in_string p ps (got ++ s))
+pub string_read : (p : Printer) (ps got s : List ℕ) → AllByRecursion (λ b. 1 ≤ b) s → length got + length s ≤ 25 → Reads (in_string p ps got) s [] (in_string p ps (got ++ s))
 string_read p ps got [] h k = ap (λ (x : List ℕ). stay (in_string p ps x)) (sym (append-nil got))
 string_read p ps got (b ∷ s) h k =
     reads_then (in_string p ps got) (b ∷ []) s

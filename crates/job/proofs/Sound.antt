@@ -1,6 +1,6 @@
 -- What stays true of an interpreter while it reads.
 use Rattle.std.proofs.Common.{◌≡◌, ℕ, ◌≤◌, true, List, length}
-use Rattle.std.specs.List.{AllByRecursion as All}
+use Rattle.std.specs.List.{AllByRecursion}
 use Rattle.reading.specs.Commands.{Command, idle, print, send, sound_beep, pulse_drawer, line_feed, vertical_tab, form_feed, horizontal_tab, cancel_row, delete, attributes_off, set_emphasised, set_one_line_width, set_expanded, set_double_height, set_underline, set_italic, set_print_mode, set_spacing, feed_steps, repeat, set_page_length, set_vertical_stops, set_horizontal_stops, set_left_margin, set_right_margin, cut, bar_code, configure, reset}
 use Rattle.reading.specs.Reading.{Reading, text, escape, group, parameter, repeat_what, repeat_count, bar_parameters, bar_string, vertical_list, horizontal_list, body, Meaning, more, done, refused, is_text}
 use Rattle.job.specs.Actions.{Cell}
@@ -23,7 +23,7 @@ abbrev pub Sound : Printer → Type 0
 Sound p = Fit p.settings.margins p.settings.horizontal_stops p.settings.vertical_stops p.settings.paper p.settings.cutter.lines p.row
 
 abbrev pub SoundEffect : Effect → Type 0
-SoundEffect e = All Orderable e.acts × Sound e.printer
+SoundEffect e = AllByRecursion Orderable e.acts × Sound e.printer
 
 abbrev pub SoundCommand : Command → Type 0
 SoundCommand idle = Unit {0}
@@ -80,4 +80,4 @@ abbrev pub SoundState : State → Type 0
 SoundState st = SoundReading st.reading × Sound st.printer
 
 abbrev pub SoundStep : Step → Type 0
-SoundStep t = All Orderable t.acts × SoundState t.next
+SoundStep t = AllByRecursion Orderable t.acts × SoundState t.next

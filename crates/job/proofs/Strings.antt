@@ -1,6 +1,6 @@
 -- The strings that a kind of bar code accepts: at most 25 bytes, none of them 00.
 use Rattle.std.proofs.Common.{◌≡◌, ℕ, ◌+◌, ◌%◌, ◌<◌, ◌≤◌, Bool, true, false, cond, ◌||◌, eqb, leb, List, [], ◌∷◌, length, Some, None, Option, refl, subst, ⊎_elim, arith, lit≤}
-use Rattle.std.specs.List.{AllByRecursion as All}
+use Rattle.std.specs.List.{AllByRecursion}
 use Rattle.std.proofs.lemmas.Bool.{and_parts, or_cases, leb-true, eqb-true, false≢true}
 use Rattle.reading.specs.Tests.{between, one_of, every}
 use Rattle.job.specs.declared.bars.Verdict.TheVariants.{Accepted, WrongCharacter, WrongLength}
@@ -63,7 +63,7 @@ filled_character Codabar n place c e = filled_codabar n place c e
 filled_character Msi n place c e = filled_digit c e
 filled_character Code11 n place c e = filled_digit c e
 
-filled_from : (kind : BarKind) (n place : ℕ) (s : List ℕ) → right_from kind n place s ≡ true → All Filled s
+filled_from : (kind : BarKind) (n place : ℕ) (s : List ℕ) → right_from kind n place s ≡ true → AllByRecursion Filled s
 filled_from kind n place [] e = tt
 filled_from kind n place (c ∷ s) e =
     let parts : (right_character kind n place c ≡ true) × (right_from kind n (place + 1) s ≡ true) = and_parts (right_character kind n place c) (right_from kind n (place + 1) s) e in
@@ -98,7 +98,7 @@ accepted_parts kind s e = go (right_characters kind s) (right_length kind (lengt
     go true false p q v = let z : ◌≡◌ {A = ℕ} 0 1 = cc in absurd (omega arith)
     go false y p q v = let z : ◌≡◌ {A = ℕ} 0 1 = cc in absurd (omega arith)
 
-pub accepted_filled : (kind : Option BarKind) (s : List ℕ) → verdict kind s ≡ Accepted → All Filled s
+pub accepted_filled : (kind : Option BarKind) (s : List ℕ) → verdict kind s ≡ Accepted → AllByRecursion Filled s
 accepted_filled None s e = let z : ◌≡◌ {A = ℕ} 0 1 = cc in absurd (omega arith)
 accepted_filled (Some kind) s e = filled_from kind (length s) 0 s (accepted_parts kind s e).characters
 

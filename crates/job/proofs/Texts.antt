@@ -1,7 +1,7 @@
 -- Normal texts consist of bytes, are settled and canonical.
 use Rattle.std.proofs.Common.{◌≡◌, ℕ, ◌<◌, ◌≤◌, Bool, true, false, cond, eqb, ltb, List, [], ◌∷◌, ◌++◌, sym, refl, ap, ◌∙◌, subst, ⊎_elim, arith, lit≤}
 use mathlib.Core.Bool.{beq}
-use Rattle.std.specs.List.{ContainsAt as Has, AllByRecursion as All}
+use Rattle.std.specs.List.{ContainsAt as Has, AllByRecursion}
 use Rattle.std.proofs.lemmas.Bool.{and_parts, or_cases, ltb-true, cond_both}
 use Rattle.std.proofs.ByRecursion.{All-append, All-weaker, all-has, has_push}
 use Rattle.reading.specs.declared.Reply.{Reply}
@@ -105,7 +105,7 @@ action_bytes pulse h = bytes_by_test (action_text pulse) refl
 action_bytes beep h = bytes_by_test (action_text beep) refl
 action_bytes (reply r) h = reply_bytes r
 
-pub job_bytes : (acts : List Act) → All Orderable acts → Bytes (job_text acts)
+pub job_bytes : (acts : List Act) → AllByRecursion Orderable acts → Bytes (job_text acts)
 job_bytes [] h = tt
 job_bytes (a ∷ acts) h = joined_bytes (action_text a) (job_text acts) (action_bytes a h.0) (job_bytes acts h.1)
 

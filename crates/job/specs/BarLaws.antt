@@ -1,6 +1,6 @@
 -- What holds of bar codes, in the words of their rules.
 use Rattle.std.specs.Prelude.{◌≡◌, ℕ, ◌≤◌, true, false, ◌||◌, List, [], ◌∷◌, ◌++◌, length, Some, None, ◌==◌}
-use Rattle.std.specs.List.{AllByRecursion as All}
+use Rattle.std.specs.List.{AllByRecursion}
 use Rattle.reading.specs.declared.Reply.{Reply}
 use Rattle.reading.specs.declared.Reply.TheVariants.{WrongCharacter, WrongLength, UnknownKind}
 use Rattle.reading.specs.Tests.{between}
@@ -39,4 +39,4 @@ pub record Judged (p : Printer) (n1 n2 n3 n4 : ℕ) (s : List ℕ) : Type 0 wher
 abbrev pub BarCodesAreJudged : Type 0
 BarCodesAreJudged =
     (p : Printer) (n1 n2 n3 n4 : ℕ) (s : List ℕ) → (n2 == 0 || between 2 5 n2) ≡ true → (n3 == 0 || between 50 200 n3) ≡ true
-    → All (λ b. 1 ≤ b) s → length s ≤ 25 → Judged p n1 n2 n3 n4 s
+    → AllByRecursion (λ b. 1 ≤ b) s → length s ≤ 25 → Judged p n1 n2 n3 n4 s

@@ -1,6 +1,6 @@
 -- What holds of single commands, in the words of their rules.
 use Rattle.std.specs.Prelude.{◌≡◌, ℕ, ◌+◌, ◌<◌, ◌≤◌, true, false, List, [], ◌∷◌, ◌++◌, map, length, replicate, pos, Some, slice_index_or}
-use Rattle.std.specs.List.{AllByRecursion as All}
+use Rattle.std.specs.List.{AllByRecursion}
 use Rattle.reading.specs.declared.Refusal.{Refusal}
 use Rattle.reading.specs.Reading.{text, is_text, reading_after}
 use Rattle.reading.specs.Unfinished.{begun}
@@ -68,7 +68,7 @@ pub record InOrder (acts : List Act) : Type 0 where
   pub parts : acts ≡ map row rows ++ (replicate count (advance steps) ++ others)
   pub one_row : length rows ≤ 1
   pub one_other : length others ≤ 1
-  pub no_more : All Other others
+  pub no_more : AllByRecursion Other others
 
 -- everything that one byte orders
 abbrev pub OneByteOrders : Type 0

@@ -1,6 +1,6 @@
 -- What holds of jobs and normal texts.
 use Rattle.std.specs.Prelude.{◌≡◌, ℕ, ◌<◌, ◌↔◌, List, [], ◌∷◌, ◌++◌, length}
-use Rattle.std.specs.List.{ContainsAt as Has, flat_map, AllByRecursion as All}
+use Rattle.std.specs.List.{ContainsAt as Has, flat_map, AllByRecursion}
 use Rattle.job.specs.Actions.{Act}
 use Rattle.job.specs.Job.{State, Run, run, stay, followed_by, resting, job}
 use Rattle.job.specs.NormalText.{action_text, job_text, normal_text}
@@ -8,7 +8,7 @@ use Rattle.job.specs.Orderable.{Orderable}
 
 -- a stream of bytes
 abbrev pub Bytes : List ℕ → Type 0
-Bytes = All (λ b. b < 256)
+Bytes = AllByRecursion (λ b. b < 256)
 
 -- two streams have the same normal text exactly when they order the same job
 abbrev pub Canonical : Type 0
@@ -29,7 +29,7 @@ just acts line = record { acts = acts; refusals = []; state = resting line }
 
 -- the text of a job that a stream can order orders that very job, refuses nothing, and leaves the interpreter as new but for its line number
 abbrev pub ReadBack : Type 0
-ReadBack = (acts : List Act) (line : ℕ) → All Orderable acts → run (resting line) (job_text acts) ≡ just acts (lines_after acts line)
+ReadBack = (acts : List Act) (line : ℕ) → AllByRecursion Orderable acts → run (resting line) (job_text acts) ≡ just acts (lines_after acts line)
 
 -- an action's text before any other bytes orders the action, and then those bytes do what they do by themselves
 abbrev pub ReadBeforeOthers : Type 0
@@ -63,7 +63,7 @@ OrderableIsWhatStreamsOrder = (a : Act) → OrderableIsOrdered a
 
 -- a stream of bytes orders nothing but what can be ordered
 abbrev pub OnlyOrderable : Type 0
-OnlyOrderable = (s : List ℕ) → Bytes s → All Orderable (job s)
+OnlyOrderable = (s : List ℕ) → Bytes s → AllByRecursion Orderable (job s)
 
 -- pieces read one after the other: places are those of the whole
 abbrev pub run_pieces : State → List (List ℕ) → Run

@@ -1,6 +1,6 @@
 -- A byte either adds to the command that is being read, within its length, or ends it.
 use Rattle.std.proofs.Common.{◌≡◌, ℕ, ◌+◌, ◌<◌, ◌≤◌, Bool, true, false, cond, eqb, ltb, List, [], ◌∷◌, ◌++◌, length, sym, refl, ap, subst, append_assoc, arith, length-append, rules}
-use Rattle.std.specs.List.{AllByRecursion as All}
+use Rattle.std.specs.List.{AllByRecursion}
 use Rattle.std.proofs.lemmas.List.{length_push, append-nil}
 use Rattle.std.proofs.lemmas.Bool.{eqb-true, ltb-true, ltb-false}
 use Rattle.reading.specs.Tests.{find}
@@ -33,20 +33,20 @@ chosen bs true x y f g = f refl
 chosen bs false x y f g = g refl
 
 -- a table whose rows do so
-found : (front : List ℕ) (table : List (ℕ × Meaning)) (b : ℕ) → All (λ row. Moves (front ++ row.0 ∷ []) row.1) table → Moves (front ++ b ∷ []) (find unknown table b)
+found : (front : List ℕ) (table : List (ℕ × Meaning)) (b : ℕ) → AllByRecursion (λ row. Moves (front ++ row.0 ∷ []) row.1) table → Moves (front ++ b ∷ []) (find unknown table b)
 found front [] b h = refl
 found front (row ∷ table) b h =
     chosen (front ++ b ∷ []) (eqb row.0 b) row.1 (find unknown table b)
     (λ e. subst (λ (n : ℕ). Moves (front ++ n ∷ []) row.1) (eqb-true row.0 b e) h.0)
     (λ e. found front table b h.1)
 
-single_rows : All (λ row. Moves ([] ++ row.0 ∷ []) row.1) single_bytes
+single_rows : AllByRecursion (λ row. Moves ([] ++ row.0 ∷ []) row.1) single_bytes
 single_rows = search rules
 
-escape_rows : All (λ row. Moves ((0x1B ∷ []) ++ row.0 ∷ []) row.1) escape_codes
+escape_rows : AllByRecursion (λ row. Moves ((0x1B ∷ []) ++ row.0 ∷ []) row.1) escape_codes
 escape_rows = search rules
 
-group_rows : All (λ row. Moves ((0x1D ∷ []) ++ row.0 ∷ []) row.1) group_codes
+group_rows : AllByRecursion (λ row. Moves ((0x1D ∷ []) ++ row.0 ∷ []) row.1) group_codes
 group_rows = search rules
 
 listed : (most : ℕ) (command : List ℕ → Command) (reading : List ℕ → Reading) (got bs : List ℕ) (b : ℕ)

@@ -1,6 +1,6 @@
 -- A stream begins with a part exactly as described.
 use Rattle.std.proofs.Common.{◌≡◌, ℕ, zero, suc, ◌+◌, ◌<◌, ◌≤◌, min, Bool, true, false, cond, eqb, ◌⊎◌, List, [], ◌∷◌, ◌++◌, length, take, drop, sym, refl, ap, ◌∙◌, subst, inl, inr, arith, length-append, rules}
-use Rattle.std.specs.List.{prefix_len, AllByRecursion as All}
+use Rattle.std.specs.List.{prefix_len, AllByRecursion}
 use Rattle.std.proofs.lemmas.List.{take-append-drop, take_at, take_all, length-take-le}
 use Rattle.std.proofs.lemmas.List.Sums.{prefix_len-le-length}
 use Rattle.std.proofs.lemmas.Bool.{cond-true, cond-false, cond_both, cases_lt}
@@ -42,17 +42,17 @@ Holds (more q) = Fits (awaited q)
 Holds (done o q) = Unit {0}
 Holds (refused why q) = Unit {0}
 
-in_table : (P : Meaning → Type 0) → P unknown → (table : List (ℕ × Meaning)) (b : ℕ) → All (λ row. P row.1) table → P (find unknown table b)
+in_table : (P : Meaning → Type 0) → P unknown → (table : List (ℕ × Meaning)) (b : ℕ) → AllByRecursion (λ row. P row.1) table → P (find unknown table b)
 in_table P u [] b h = u
 in_table P u (row ∷ table) b h = cond_both (eqb row.0 b) row.1 (find unknown table b) P (λ e. h.0) (λ e. in_table P u table b h.1)
 
-single_opens : All (λ row. Opens row.1) single_bytes
+single_opens : AllByRecursion (λ row. Opens row.1) single_bytes
 single_opens = search rules
 
-escape_holds : All (λ row. Holds row.1) escape_codes
+escape_holds : AllByRecursion (λ row. Holds row.1) escape_codes
 escape_holds = search rules
 
-group_holds : All (λ row. Holds row.1) group_codes
+group_holds : AllByRecursion (λ row. Holds row.1) group_codes
 group_holds = search rules
 
 opens : (b : ℕ) → Opens (meaning text b)
@@ -117,12 +117,12 @@ first_command b bs m e k =
     cond-false (is_text b) (extent Text (min 16 (prefix_len is_text (b ∷ bs)))) (by_first bs (meaning text b)) e ∙ ap (by_first bs) k
 
 -- text in front
-run_text : (s : List ℕ) (n : ℕ) → n ≤ prefix_len is_text s → All (λ b. is_text b ≡ true) (take n s)
+run_text : (s : List ℕ) (n : ℕ) → n ≤ prefix_len is_text s → AllByRecursion (λ b. is_text b ≡ true) (take n s)
 run_text s zero h = tt
 run_text [] (suc n) h = tt
 run_text (b ∷ s) (suc n) h = go (is_text b) refl h (run_text s n)
   where
-    go : (t : Bool) → is_text b ≡ t → suc n ≤ cond t (1 + prefix_len is_text s) 0 → (n ≤ prefix_len is_text s → All (λ b. is_text b ≡ true) (take n s)) → All (λ b. is_text b ≡ true) (take (suc n) (b ∷ s))
+    go : (t : Bool) → is_text b ≡ t → suc n ≤ cond t (1 + prefix_len is_text s) 0 → (n ≤ prefix_len is_text s → AllByRecursion (λ b. is_text b ≡ true) (take n s)) → AllByRecursion (λ b. is_text b ≡ true) (take (suc n) (b ∷ s))
     go true e h f = (e, f (omega arith))
     go false e h f = absurd (omega arith)
 
@@ -134,13 +134,13 @@ run_ends (b ∷ s) = go (is_text b) refl (run_ends s)
     go true e h = let same : suc (prefix_len is_text s) ≡ 1 + prefix_len is_text s = omega arith in subst (λ (n : ℕ). TextEnds (drop n (b ∷ s))) same h
     go false e h = e
 
-run_long : (run rest : List ℕ) → All (λ b. is_text b ≡ true) run → length run ≤ prefix_len is_text (run ++ rest)
+run_long : (run rest : List ℕ) → AllByRecursion (λ b. is_text b ≡ true) run → length run ≤ prefix_len is_text (run ++ rest)
 run_long [] rest h = omega arith
 run_long (b ∷ run) rest h =
     let more_text : prefix_len is_text (b ∷ (run ++ rest)) ≡ 1 + prefix_len is_text (run ++ rest) = cond-true (is_text b) (1 + prefix_len is_text (run ++ rest)) 0 h.0 in
     omega (arith, run_long run rest h.1)
 
-run_exact : (run rest : List ℕ) → All (λ b. is_text b ≡ true) run → TextEnds rest → prefix_len is_text (run ++ rest) ≡ length run
+run_exact : (run rest : List ℕ) → AllByRecursion (λ b. is_text b ≡ true) run → TextEnds rest → prefix_len is_text (run ++ rest) ≡ length run
 run_exact [] [] h e = refl
 run_exact [] (b ∷ rest) h e = cond-false (is_text b) (1 + prefix_len is_text rest) 0 e
 run_exact (b ∷ run) rest h e =
@@ -207,7 +207,7 @@ taken_part : (s : List ℕ) (x : Extent) (bs rest : List ℕ) → first s ≡ x 
 taken_part s x bs rest e j l =
     ap (λ (x : Extent). a_part x.kind (take x.count s)) e ∙ ap (a_part x.kind) (ap (take x.count) j ∙ front_taken bs rest x.count l)
 
-of_text : (run rest : List ℕ) → All (λ b. is_text b ≡ true) run → 1 ≤ length run → length run ≤ 16 → (length run ≡ 16) ⊎ TextEnds rest → first (run ++ rest) ≡ extent Text (length run)
+of_text : (run rest : List ℕ) → AllByRecursion (λ b. is_text b ≡ true) run → 1 ≤ length run → length run ≤ 16 → (length run ≡ 16) ⊎ TextEnds rest → first (run ++ rest) ≡ extent Text (length run)
 of_text [] rest all some few stop = absurd (omega arith)
 of_text (b ∷ run) rest all some few stop =
     cond-true (is_text b) (extent Text (min 16 (prefix_len is_text (b ∷ (run ++ rest))))) (by_first (run ++ rest) (meaning text b)) all.0 ∙ ap (extent Text) (count stop)

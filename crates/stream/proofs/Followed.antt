@@ -1,6 +1,6 @@
 -- How a command ends, told by what is awaited behind its code and the bytes that follow, all at once.
 use Rattle.std.proofs.Common.{◌≡◌, ℕ, ◌+◌, ◌-◌, ◌<◌, ◌≤◌, Bool, true, false, cond, eqb, leb, List, [], ◌∷◌, ◌++◌, length, replicate, sym, refl, ap, ◌∙◌, append_assoc, arith, length-append}
-use Rattle.std.specs.List.{AllByRecursion as All}
+use Rattle.std.specs.List.{AllByRecursion}
 use Rattle.std.proofs.lemmas.List.{length-replicate, nil_from_length, append-nil}
 use Rattle.std.proofs.lemmas.Bool.{leb-true, leb-false, eqb-true, eqb-false}
 use Rattle.stream.specs.declared.parts.Kind.{Kind}
@@ -130,13 +130,13 @@ past_parameters (b ∷ ps) rest n before most e =
     ap (by_progress n (ps ++ rest)) (before_list before most b (omega arith)) ∙ past_parameters ps rest (n + 1) (before - 1) most (omega arith)
     ∙ ap (λ (k : ℕ). follow k (ListOf 0 most) rest) (omega arith)
 
-list_complete : (list rest : List ℕ) (n most : ℕ) → All (λ b. 1 ≤ b) list → length list ≤ most → follow n (ListOf 0 most) (list ++ 0 ∷ rest) ≡ extent kind.Command (n + length list + 1)
+list_complete : (list rest : List ℕ) (n most : ℕ) → AllByRecursion (λ b. 1 ≤ b) list → length list ≤ most → follow n (ListOf 0 most) (list ++ 0 ∷ rest) ≡ extent kind.Command (n + length list + 1)
 list_complete [] rest n most h k = ap (extent kind.Command) (omega arith)
 list_complete (b ∷ list) rest n most h k =
     ap (by_progress n (list ++ 0 ∷ rest)) (list_byte most b h.0 (omega arith)) ∙ list_complete list rest (n + 1) (most - 1) h.1 (omega arith)
     ∙ ap (extent kind.Command) (omega arith)
 
-list_overlong : (list rest : List ℕ) (n most : ℕ) → All (λ b. 1 ≤ b) list → length list ≡ most + 1 → follow n (ListOf 0 most) (list ++ rest) ≡ extent kind.Refused (n + length list)
+list_overlong : (list rest : List ℕ) (n most : ℕ) → AllByRecursion (λ b. 1 ≤ b) list → length list ≡ most + 1 → follow n (ListOf 0 most) (list ++ rest) ≡ extent kind.Refused (n + length list)
 list_overlong [] rest n most h k = absurd (omega arith)
 list_overlong (b ∷ []) rest n most h k =
     let none : most ≡ 0 = omega arith in

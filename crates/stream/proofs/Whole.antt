@@ -1,6 +1,6 @@
 -- The parts of a stream join to it.
 use Rattle.std.proofs.Common.{◌≡◌, ℕ, zero, suc, ◌+◌, ◌<◌, ◌≤◌, min, Bool, true, false, cond, leb, ◌≢◌, ◌↔◌, List, [], ◌∷◌, ◌++◌, length, drop, Some, None, Option, sym, refl, ap, ◌∙◌, subst, arith}
-use Rattle.std.specs.List.{flat_map, prefix_len, AllByRecursion as All}
+use Rattle.std.specs.List.{flat_map, prefix_len, AllByRecursion}
 use Rattle.std.proofs.lemmas.List.{length-take-le, length-drop, take-append-drop, drop-drop, drop_all}
 use Rattle.std.proofs.lemmas.List.Sums.{prefix_len-le-length}
 use Rattle.std.proofs.lemmas.Bool.{leb-true, leb-false, le-leb, lt-leb, cond-true, cond-false}
@@ -83,7 +83,7 @@ left s place h = omega (arith, length-drop place s)
 -- the parts from a place on
 record Split (s : List ℕ) (place : ℕ) (ps : List Part) : Type 0 where
   join : flat_map bytes_of ps ≡ drop place s
-  all_sized : All Sized ps
+  all_sized : AllByRecursion Sized ps
   last : UnfinishedLast ps
 
 unfinished_at_end : (s : List ℕ) (place : ℕ) (p q : Part) (ps : List Part) → part_at s place ≡ Some p → Parts s (place + length p.bytes) (q ∷ ps) → p.kind ≢ Unfinished

@@ -1,6 +1,6 @@
 -- What a part is, told without reading byte by byte.
 use Rattle.std.specs.Prelude.{◌≡◌, ℕ, ◌+◌, ◌≤◌, true, false, ◌⊎◌, List, [], ◌∷◌, ◌++◌, length}
-use Rattle.std.specs.List.{AllByRecursion as All}
+use Rattle.std.specs.List.{AllByRecursion}
 use Rattle.reading.specs.Commands.{Command as Order}
 use Rattle.reading.specs.Reading.{Reading, text, more, done, refused, meaning, is_text}
 use Rattle.reading.specs.declared.Refusal.{Refusal}
@@ -16,7 +16,7 @@ pub record WholeList (before most : ℕ) (bs : List ℕ) : Type 0 where
   pub list : List ℕ
   pub joins : bs ≡ parameters ++ (list ++ 0x00 ∷ [])
   pub counted : length parameters ≡ before
-  pub nonzero : All (λ b. 1 ≤ b) list
+  pub nonzero : AllByRecursion (λ b. 1 ≤ b) list
   pub short : length list ≤ most
 
 -- so many bytes, and one byte more that is not 00 than the list may have
@@ -25,7 +25,7 @@ pub record OverlongList (before most : ℕ) (bs : List ℕ) : Type 0 where
   pub list : List ℕ
   pub joins : bs ≡ parameters ++ list
   pub counted : length parameters ≡ before
-  pub nonzero : All (λ b. 1 ≤ b) list
+  pub nonzero : AllByRecursion (λ b. 1 ≤ b) list
   pub long : length list ≡ most + 1
 
 -- the bytes are exactly what is awaited behind a code
@@ -58,7 +58,7 @@ TextEnds (b ∷ bs) = is_text b ≡ false
 -- the part that begins these bytes; b is a first byte, c the code behind it, r and q what is read behind them
 pub data Described (bs : List ℕ) : Part → Type 0 where
   -- T: text bytes, as many as follow, up to 16
-  text_run : (run rest : List ℕ) → bs ≡ run ++ rest → All (λ b. is_text b ≡ true) run → 1 ≤ length run → length run ≤ 16
+  text_run : (run rest : List ℕ) → bs ≡ run ++ rest → AllByRecursion (λ b. is_text b ≡ true) run → 1 ≤ length run → length run ≤ 16
       → (length run ≡ 16) ⊎ TextEnds rest → Described bs (a_part Text run)
   -- C: a byte other than text that is a whole command
   control : {b : ℕ} {rest : List ℕ} {o : Order} {r : Reading} → bs ≡ b ∷ rest → is_text b ≡ false → meaning text b ≡ done o r

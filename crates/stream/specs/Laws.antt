@@ -1,6 +1,6 @@
 -- The laws of a stream's parts.
 use Rattle.std.specs.Prelude.{◌≡◌, ℕ, ◌≤◌, ◌≢◌, ◌↔◌, List, [], ◌∷◌, length, drop, Some}
-use Rattle.std.specs.List.{flat_map, AllByRecursion as All}
+use Rattle.std.specs.List.{flat_map, AllByRecursion}
 use Rattle.reading.specs.Reading.{Reading, text, reading_after}
 use Rattle.stream.specs.declared.parts.Kind.{Kind}
 use Rattle.stream.specs.declared.parts.Kind.TheVariants.{Text, Control, Command, Refused, Unfinished}
@@ -38,7 +38,7 @@ pub record Laws (s : List ℕ) (place : ℕ) : Type 0 where
   -- one behind the other they are the stream from that place on
   pub join : flat_map bytes_of parts ≡ drop place s
   -- none is empty, none has more than 42 bytes
-  pub sized : All Sized parts
+  pub sized : AllByRecursion Sized parts
   pub unfinished_last : UnfinishedLast parts
   -- the first of them is told by its description
   pub described : (p : Part) → (part_at s place ≡ Some p) ↔ (Described (drop place s) p)

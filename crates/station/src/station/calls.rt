@@ -4,7 +4,7 @@ ghost use Rattle.settings.specs.Settings.{settings_of};
 ghost use Rattle.mechanism.specs.Mechanisms.{Covered, Supplied};
 ghost use Rattle.mechanism.specs.Statuses.{status_of};
 ghost use Rattle.interpreter.specs.Interpreter.{state_of};
-ghost use Rattle.runs.specs.Calls.{fed, covered, supplied, status as statusCall, settings as settingsCall};
+ghost use Rattle.runs.specs.Calls.{fed, covered, supplied, status as status_call, settings as settings_call};
 ghost use Rattle.runs.specs.Stands.{viewed};
 ghost use Rattle.station.specs.Feeding.{Fed};
 ghost use Rattle.station.specs.Stationed.{At, Calling};
@@ -59,7 +59,7 @@ impl<M: Mechanism> Station<M> {
     /// The mechanism's status bytes.
     pub fn status(&self) -> Status
         ensures value { result ≡ status_of (M.Mechanism.reserve self.now.mechanism) (M.Mechanism.stopped self.now.mechanism) }
-        ensures stands { Calling M.Mechanism (statusCall result) self.now self.now }
+        ensures stands { Calling M.Mechanism (status_call result) self.now self.now }
     {
         self.mechanism.status()
     }
@@ -67,7 +67,7 @@ impl<M: Mechanism> Station<M> {
     /// The settings behind the bytes taken.
     pub fn settings(&self) -> &Settings
         ensures value { settings_of result.now ≡ (state_of self.now.interpreter).printer.settings }
-        ensures stands { Calling M.Mechanism (settingsCall (settings_of result.now)) self.now self.now }
+        ensures stands { Calling M.Mechanism (settings_call (settings_of result.now)) self.now self.now }
     {
         self.interpreter.settings()
     }
