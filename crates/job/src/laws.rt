@@ -7,148 +7,106 @@ ghost use Rattle.job.specs.StopLaws.{LinesAreCounted, Tabulation};
 ghost use Rattle.job.specs.Tickets.{TicketsAreAsListed};
 
 /// The listed tickets have the texts and refusals that stand beside them.
-pub fn tickets_are_as_listed() -> u8
+pub fn tickets_are_as_listed()
     ensures { TicketsAreAsListed }
-{
-    0
-}
+{}
 
 /// Two streams have the same normal text exactly when they order the same job.
-pub fn normal_texts_are_canonical() -> u8
+pub fn normal_texts_are_canonical()
     ensures { Canonical }
-{
-    0
-}
+{}
 
 /// The text of a job that a stream can order orders that very job, refuses nothing, and leaves the interpreter as new but for its line number.
-pub fn jobs_are_read_back() -> u8
+pub fn jobs_are_read_back()
     ensures { ReadBack }
-{
-    0
-}
+{}
 
 /// An action's text before any other bytes orders the action, and those bytes then do what they do by themselves.
-pub fn texts_are_read_before_others() -> u8
+pub fn texts_are_read_before_others()
     ensures { ReadBeforeOthers }
-{
-    0
-}
+{}
 
 /// A normal text is its own normal text, orders the same job, and consists of bytes.
-pub fn normal_texts_are_settled() -> u8
+pub fn normal_texts_are_settled()
     ensures { Settled }
-{
-    0
-}
+{}
 
 /// Every action of every stream's job can be ordered.
-pub fn jobs_are_orderable() -> u8
+pub fn jobs_are_orderable()
     ensures { OnlyOrderable }
-{
-    0
-}
+{}
 
 /// An action can be ordered exactly if a stream orders it, and then its text does.
-pub fn orderable_is_what_streams_order() -> u8
+pub fn orderable_is_what_streams_order()
     ensures { OrderableIsWhatStreamsOrder }
-{
-    0
-}
+{}
 
 /// A stream read in pieces orders and refuses what it does in one, and leaves the same state, for every cutting.
-pub fn pieces_make_no_difference() -> u8
+pub fn pieces_make_no_difference()
     ensures { InPieces }
-{
-    0
-}
+{}
 
 /// Margins, stops, line number, open row and unfinished command always stay within their bounds.
-pub fn settings_always_hold() -> u8
+pub fn settings_always_hold()
     ensures { AlwaysHolds }
-{
-    0
-}
+{}
 
 /// Line feeds order the closed row, if a column is not blank, and then as many equal advances, unless the spacing is 0.
-pub fn line_feeds_order_rows_and_advances() -> u8
+pub fn line_feeds_order_rows_and_advances()
     ensures { LineFeeds }
-{
-    0
-}
+{}
 
 /// VT, FF and repeated line feeds do what as many line feeds do.
-pub fn feeds_are_line_feeds() -> u8
+pub fn feeds_are_line_feeds()
     ensures { FeedsAreLineFeeds }
-{
-    0
-}
+{}
 
 /// Line feeds count the lines of the page round; VT leads to the next stop, FF to line 1.
-pub fn lines_are_counted() -> u8
+pub fn lines_are_counted()
     ensures { LinesAreCounted }
-{
-    0
-}
+{}
 
 /// HT moves to the next stop within the right margin, or does nothing.
-pub fn tabulation_leads_to_stops() -> u8
+pub fn tabulation_leads_to_stops()
     ensures { Tabulation }
-{
-    0
-}
+{}
 
 /// A character is put at the position, behind a line feed if it would pass the right margin.
-pub fn characters_wrap() -> u8
+pub fn characters_wrap()
     ensures { Typing }
-{
-    0
-}
+{}
 
 /// Repeated spaces do what as many spaces without underline do.
-pub fn repeated_spaces_are_spaces() -> u8
+pub fn repeated_spaces_are_spaces()
     ensures { RepeatedSpaces }
-{
-    0
-}
+{}
 
 /// One byte orders at most one row, then equal advances, then at most one other action.
-pub fn one_byte_orders_in_order() -> u8
+pub fn one_byte_orders_in_order()
     ensures { OneByteOrders }
-{
-    0
-}
+{}
 
 /// A refused command leaves printer and job as they were, and is reported at the place of its first byte.
-pub fn refused_commands_are_passed_over() -> u8
+pub fn refused_commands_are_passed_over()
     ensures { RefusedCommandsArePassedOver }
-{
-    0
-}
+{}
 
 /// Cancelling a row orders nothing and leaves an empty row.
-pub fn cancelling_orders_nothing() -> u8
+pub fn cancelling_orders_nothing()
     ensures { CancellingOrdersNothing }
-{
-    0
-}
+{}
 
 /// DEL takes back the character before the position, steps over an unset column, and stops at the left margin.
-pub fn deleting_takes_back() -> u8
+pub fn deleting_takes_back()
     ensures { DeletingTakesBack }
-{
-    0
-}
+{}
 
 /// A cut follows the closed row and the line feeds before a cut; with the cutter off, it does nothing.
-pub fn cuts_follow_rows_and_feeds() -> u8
+pub fn cuts_follow_rows_and_feeds()
     ensures { Cutting }
-{
-    0
-}
+{}
 
 /// A bar code is answered by its first fault, kind, character or length, or else ordered behind the closed row.
-pub fn bar_codes_are_judged() -> u8
+pub fn bar_codes_are_judged()
     ensures { BarCodesAreJudged }
-{
-    0
-}
+{}

@@ -6,7 +6,7 @@ ghost use Rattle.job.specs.Commands.{effect};
 ghost use Rattle.action.specs.Meanings.{cut_act, other_act};
 ghost use Rattle.action.specs.Owed.{owed_acts};
 ghost use Rattle.reader.specs.Commands.{parameters_of};
-ghost use Rattle.reader.specs.Short.{listed};
+ghost use Rattle.short.specs.Short.{listed};
 ghost use Rattle.printer.specs.Printer.{Carries, Does};
 
 use crate::Printer;
@@ -15,8 +15,8 @@ use action::bars::{BarSize, Bars};
 use action::owed::Owed;
 use job::bars::BarKind;
 use reader::command::BarParameters;
-use reader::short::Short;
 use reading::{Refusal, Reply};
+use short::Short;
 
 impl Printer {
     /// With the cutter on: closes the row, makes the line feeds before a cut and orders the cut.

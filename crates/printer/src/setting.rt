@@ -5,13 +5,13 @@ ghost use Rattle.reading.specs.Commands.{set_double_height, set_expanded, set_ho
 ghost use Rattle.job.specs.Actions.{plain};
 ghost use Rattle.job.specs.Changes.{bit, emphasise, print_mode, space_lines};
 ghost use Rattle.job.specs.Printer.{change, change_attributes, change_paper, reset_printer, with_attributes, with_one_line_width};
-ghost use Rattle.reader.specs.Short.{listed};
+ghost use Rattle.short.specs.Short.{listed};
 ghost use Rattle.printer.specs.Printer.{Carries, printer_of};
 
 use crate::Printer;
 use job::cells::Attributes;
-use reader::short::Short;
 use reading::Refusal;
+use short::Short;
 
 impl Printer {
     /// All five attributes and one-line width off.

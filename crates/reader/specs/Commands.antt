@@ -1,7 +1,7 @@
 -- The commands that the code's commands stand for.
 use Rattle.std.specs.Prelude.{ℕ, List, [], ◌∷◌}
 use Rattle.reading.specs.Commands as table
-use Rattle.reader.specs.Short.{listed}
+use Rattle.short.specs.Short.{listed}
 use Rattle.reader.specs.declared.command.BarParameters.{BarParameters}
 use Rattle.reader.specs.declared.command.Command.{Command}
 use Rattle.reader.specs.declared.command.Command.TheVariants.{Idle, Print, Send, SoundBeep, PulseDrawer, LineFeed, VerticalTab, FormFeed, HorizontalTab, CancelRow, Delete, AttributesOff, SetEmphasised, SetOneLineWidth, SetExpanded, SetDoubleHeight, SetUnderline, SetItalic, SetPrintMode, SetSpacing, FeedSteps, Repeat, SetPageLength, SetVerticalStops, SetHorizontalStops, SetLeftMargin, SetRightMargin, Cut, BarCode, Configure, Reset}

@@ -1,3 +1,3 @@
-pub mod Short
+pub mod Filling
 pub mod Commands
 pub mod Reading

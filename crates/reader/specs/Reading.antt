@@ -1,6 +1,7 @@
 -- What the reader's values stand for.
 use Rattle.reading.specs.Reading as table
-use Rattle.reader.specs.Short.{listed, so_far}
+use Rattle.short.specs.Short.{listed}
+use Rattle.reader.specs.Filling.{so_far}
 use Rattle.reader.specs.Commands.{parameters_of, command_of}
 use Rattle.reader.specs.declared.read_state.Reading.{Reading}
 use Rattle.reader.specs.declared.read_state.Reading.TheVariants.{Text, Escape, Group, Parameter, RepeatWhat, RepeatCount, Collecting}

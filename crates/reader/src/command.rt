@@ -1,7 +1,7 @@
 //! Complete commands.
-use crate::short::Short;
 use crate::text_byte::TextByte;
 use reading::Reply;
+use short::Short;
 
 /// The four parameters of a bar code, as the stream gave them.
 #[derive(Clone, Copy)]

@@ -2,6 +2,6 @@
 #![tactic(auto)]
 
 pub mod command;
+pub mod filling;
 pub mod read_state;
-pub mod short;
 pub mod text_byte;

@@ -8,9 +8,10 @@ ghost use Rattle.reader.specs.Commands.{command_of, parameters_of};
 ghost use Rattle.reader.specs.Reading.{collected_of, meaning_of, reading_of};
 
 use crate::command::{BarParameters, Command};
-use crate::short::{Filled, Filling, Short};
+use crate::filling::{Filled, Filling};
 use crate::text_byte::TextByte;
 use reading::{ParameterCode, Refusal, Reply};
+use short::Short;
 
 /// What is being read; of an unfinished command, the bytes that its completion needs.
 #[derive(Clone, Copy)]
@@ -103,7 +104,7 @@ impl Collected {
             Collected::BarString(parameters, mut string) => {
                 if byte == 0 {
                     Meaning::Done(Command::BarCode(parameters, string))
-                } else if string.push(byte) {
+                } else if string.push(byte).is_ok() {
                     collecting(Collected::BarString(parameters, string))
                 } else {
                     Meaning::Refused(Refusal::TooLong)
@@ -112,7 +113,7 @@ impl Collected {
             Collected::VerticalList(mut stops) => {
                 if byte == 0 {
                     Meaning::Done(Command::SetVerticalStops(stops))
-                } else if stops.push(byte) {
+                } else if stops.push(byte).is_ok() {
                     collecting(Collected::VerticalList(stops))
                 } else {
                     Meaning::Refused(Refusal::TooLong)
@@ -121,7 +122,7 @@ impl Collected {
             Collected::HorizontalList(mut stops) => {
                 if byte == 0 {
                     Meaning::Done(Command::SetHorizontalStops(stops))
-                } else if stops.push(byte) {
+                } else if stops.push(byte).is_ok() {
                     collecting(Collected::HorizontalList(stops))
                 } else {
                     Meaning::Refused(Refusal::TooLong)

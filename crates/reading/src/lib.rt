@@ -3,7 +3,7 @@
 #![tactic(auto)]
 
 ghost use Rattle.std.specs.Prelude.{◌≡◌};
-ghost use Rattle.reading.specs.Reading.{refusal_number};
+ghost use Rattle.reading.specs.Reading.{is_text, refusal_number};
 ghost use Rattle.reading.specs.Unfinished.{UnfinishedCommandsAreKept};
 
 /// What the station can answer its host.
@@ -65,8 +65,13 @@ impl Refusal {
 }
 
 /// Of an unfinished command at most 41 bytes are kept, the last ones of the stream, and they alone say what is read next.
-pub fn unfinished_commands_are_kept() -> u8
+pub fn unfinished_commands_are_kept()
     ensures { UnfinishedCommandsAreKept }
+{}
+
+/// Whether a byte is text: 20 to 7E or 80 to FF.
+pub fn is_text(byte: u8) -> bool
+    ensures { result ≡ is_text byte }
 {
-    0
+    byte >= 0x20 && byte != 0x7F
 }

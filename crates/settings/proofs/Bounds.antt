@@ -2,7 +2,7 @@
 use Rattle.std.proofs.Common.{ℕ, ◌≤◌, length, arith}
 use Rattle.std.proofs.lemmas.List.{length-take-le}
 use Rattle.job.specs.Invariants.{SettingsHold}
-use Rattle.reader.specs.Short.{listed}
+use Rattle.short.specs.Short.{listed}
 use Rattle.reader.specs.declared.short.Short.{Short}
 use Rattle.settings.specs.Settings.{settings_of}
 use Rattle.settings.specs.declared.Settings.{Settings}

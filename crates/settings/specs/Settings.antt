@@ -2,7 +2,7 @@
 use Rattle.std.specs.Prelude.{ℕ}
 use Rattle.job.specs.declared.settings.Margins.{Margins}
 use Rattle.job.specs.Printer as job
-use Rattle.reader.specs.Short.{listed}
+use Rattle.short.specs.Short.{listed}
 use Rattle.settings.specs.declared.Settings.{Settings}
 
 -- the settings that the code's settings stand for

@@ -4,7 +4,7 @@
 ghost use Rattle.std.specs.Prelude.{◌≡◌, ◌+◌, ◌<◌, ◌≤◌, true};
 ghost use Rattle.job.specs.Changes.{rising};
 ghost use Rattle.reading.specs.Tests.{between, every};
-ghost use Rattle.reader.specs.Short.{listed};
+ghost use Rattle.short.specs.Short.{listed};
 
 pub mod body;
 mod getters;
@@ -13,7 +13,7 @@ mod stops;
 
 use job::cells::Attributes;
 use job::settings::{Cutter, Margins, Paper};
-use reader::short::Short;
+use short::Short;
 
 /// What commands set.
 #[derive(Clone, Copy)]

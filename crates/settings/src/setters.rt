@@ -5,7 +5,7 @@ ghost use Rattle.job.specs.Changes.{page_of, right_margin_at, rising, space_line
 ghost use Rattle.job.specs.Configuration.{body_in_range, body_settings};
 ghost use Rattle.job.specs.Lines.{next_line};
 ghost use Rattle.job.specs.Printer.{margins_of, new_printer_at, reset_settings, with_attributes, with_cutter, with_horizontal_stops, with_margins, with_one_line_width, with_paper, with_vertical_stops};
-ghost use Rattle.reader.specs.Short.{listed};
+ghost use Rattle.short.specs.Short.{listed};
 ghost use Rattle.settings.specs.Settings.{left_margin_moved, settings_of};
 
 use crate::Settings;
@@ -13,7 +13,7 @@ use crate::body::read_body;
 use crate::stops::{all_between, rise};
 use job::cells::Attributes;
 use job::settings::{Cutter, Margins, Paper};
-use reader::short::Short;
+use short::Short;
 
 impl Settings {
     /// As after a reset, with spacing 25, a page of 66 lines at line 1, and the cutter on for total cuts.

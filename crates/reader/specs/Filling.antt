@@ -1,13 +1,8 @@
--- What lists in fixed memory hold.
+-- What a list holds that fills up to N bytes.
 use Rattle.std.specs.Prelude.{◌≡◌, ℕ, ◌<◌, List, length, take}
-use Rattle.reader.specs.declared.short.Short.{Short}
-use Rattle.reader.specs.declared.short.Filling.{Filling}
-use Rattle.reader.specs.declared.short.Filled.{Filled}
-use Rattle.reader.specs.declared.short.Filled.TheVariants.{Part, Whole}
-
--- the bytes of a short list
-abbrev pub listed : {N : ℕ} → Short N → List ℕ
-listed s = take s.len s.bytes
+use Rattle.reader.specs.declared.filling.Filling.{Filling}
+use Rattle.reader.specs.declared.filling.Filled.{Filled}
+use Rattle.reader.specs.declared.filling.Filled.TheVariants.{Part, Whole}
 
 -- the bytes that have come
 abbrev pub so_far : {N : ℕ} → Filling N → List ℕ

@@ -1,6 +1,6 @@
 use Rattle.std.proofs.Common.{◌≡◌, ◌+◌, length, take, set, sym, ◌∙◌, arith, rules}
 use Rattle.std.proofs.lemmas.List.{length-take-le, length_push, take_more_set, take_all, length-set}
-use Rattle.reader.proofs.short.Filling.add.Goals as goal
+use Rattle.reader.proofs.filling.Filling.add.Goals as goal
 
 pub returns-then-len : goal.returns-then-len
 returns-then-len g c = (search (rules, take_more_set), search (rules, length_push, length-take-le))

@@ -1,17 +1,7 @@
-//! Lists of bytes in fixed memory.
-ghost use Rattle.std.specs.Prelude.{◌≡◌, ◌<◌, ◌≤◌, length};
-
-mod adding;
+//! Lists that fill up to N bytes.
 mod methods;
 
-/// A list of at most N bytes.
-#[derive(Clone, Copy)]
-pub struct Short<const N: usize> {
-    bytes: [u8; N],
-    len: usize,
-    ghost long: { length bytes ≡ N },
-    ghost fits: { len ≤ N },
-}
+ghost use Rattle.std.specs.Prelude.{◌≡◌, ◌<◌, length};
 
 /// The first bytes of N, of which at least one is still to come.
 #[derive(Clone, Copy)]

@@ -1,8 +1,8 @@
-//! Lists that fill up to N bytes.
+//! How a list fills up.
 ghost use Rattle.std.specs.Prelude.{◌≡◌, ◌<◌, [], ◌∷◌, ◌++◌, length};
-ghost use Rattle.reader.specs.Short.{so_far, AddsUp};
+ghost use Rattle.reader.specs.Filling.{so_far, AddsUp};
 
-use crate::short::{Filled, Filling};
+use crate::filling::{Filled, Filling};
 
 impl<const N: usize> Filling<N> {
     /// None of N bytes.

@@ -1,6 +1,0 @@
-use Rattle.std.proofs.Common.{rules}
-use Rattle.std.proofs.lemmas.List.{length-take-le}
-use Rattle.reader.proofs.short.Short.len.Goals as goal
-
-pub returns : goal.returns
-returns g c = record { value = search (rules, length-take-le); most = search rules }
