@@ -1,9 +1,12 @@
 //! Complete commands.
+ghost use Rattle.std.specs.Prelude.{◌≡◌};
+ghost use Rattle.reader.specs.Commands.{parameters_of};
+
 use crate::text_byte::TextByte;
 use reading::Reply;
 use short::Short;
 
-/// The four parameters of a bar code, as the stream gave them.
+/// The four parameters of a bar code, as the stream gave them: whether there is such a kind or size is asked when they are carried out.
 #[derive(Clone, Copy)]
 pub struct BarParameters {
     /// The number of its kind.
@@ -16,7 +19,22 @@ pub struct BarParameters {
     pub shown: u8,
 }
 
-/// A complete command, with its parameters as the stream gave them.
+impl From<[u8; 4]> for BarParameters {
+    /// The parameters in the order in which they come.
+    fn from(bytes: [u8; 4]) -> BarParameters
+        ensures { parameters_of result ≡ bytes }
+    {
+        let [kind, width, height, shown] = bytes;
+        BarParameters {
+            kind,
+            width,
+            height,
+            shown,
+        }
+    }
+}
+
+/// A complete command, with its parameters as the stream gave them: numbers, of which nobody has asked yet whether they are in range.
 #[derive(Clone, Copy)]
 pub enum Command {
     /// A byte that is taken and does nothing.

@@ -2,6 +2,5 @@
 #![tactic(auto)]
 
 pub mod command;
-pub mod filling;
 pub mod read_state;
 pub mod text_byte;

@@ -1,17 +1,16 @@
 //! What is being read, and what a byte makes of it.
-ghost use Rattle.std.specs.Prelude.{◌≡◌, ◌≤◌, length};
+ghost use Rattle.std.specs.Prelude.{◌≡◌, ◌+◌, ◌≤◌, [], ◌∷◌, ◌++◌, length, Ok};
 ghost use Rattle.reading.specs.Commands.{with_parameter};
 ghost use Rattle.reading.specs.Reading.{escape_codes, meaning, more, parameter, single_bytes, unknown};
 ghost use Rattle.reading.specs.Tests.{find};
 ghost use Rattle.reading.specs.Unfinished.{begun};
-ghost use Rattle.reader.specs.Commands.{command_of, parameters_of};
-ghost use Rattle.reader.specs.Reading.{collected_of, meaning_of, reading_of};
+ghost use Rattle.reader.specs.Commands.{command_of};
+ghost use Rattle.reader.specs.Reading.{collected_of, meaning_of, reading_of, UpToZero};
 
 use crate::command::{BarParameters, Command};
-use crate::filling::{Filled, Filling};
 use crate::text_byte::TextByte;
 use reading::{ParameterCode, Refusal, Reply};
-use short::Short;
+use short::{Full, Short};
 
 /// What is being read; of an unfinished command, the bytes that its completion needs.
 #[derive(Clone, Copy)]
@@ -33,49 +32,47 @@ pub enum Reading {
 /// What is collected byte by byte.
 #[derive(Clone, Copy)]
 pub enum Collected {
-    /// The four parameters of a bar code.
-    BarParameters(Filling<4>),
+    /// The four parameters of a bar code, of which at most three have come.
+    BarParameters(Short<3>),
     /// A bar code's string, behind its parameters.
     BarString(BarParameters, Short<25>),
     /// Vertical stops.
     VerticalList(Short<16>),
     /// Horizontal stops.
     HorizontalList(Short<8>),
-    /// A configuration's body, and whether it also replies.
-    Body(bool, Filling<40>),
+    /// A configuration's body of 40 bytes, of which at most 39 have come, and whether it also replies.
+    Body(bool, Short<39>),
 }
 
-/// What a byte makes of what is being read. Behind a complete or refused command, text is read.
+/// What a byte that is not refused makes of what is being read. Behind a complete command, text is read.
 #[derive(Clone, Copy)]
 pub enum Meaning {
     /// More of the command is to come.
     More(Reading),
     /// The command is complete.
     Done(Command),
-    /// The command is refused.
-    Refused(Refusal),
 }
 
 impl Reading {
-    /// What a byte makes of what is being read.
-    pub fn meaning(self, byte: u8) -> Meaning
+    /// What a byte makes of what is being read, or why it refuses the command; behind a refused command, text is read.
+    pub fn meaning(self, byte: u8) -> Result<Meaning, Refusal>
         ensures { meaning_of result ≡ meaning (reading_of self) byte }
     {
         match (self, byte) {
             (Reading::Text, 0x00..=0x1F | 0x7F) => single_byte(byte),
-            (Reading::Text, _) => Meaning::Done(Command::Print(TextByte { code: byte })),
+            (Reading::Text, _) => Ok(Meaning::Done(Command::Print(TextByte { code: byte }))),
             (Reading::Escape, _) => escape_code(byte),
-            (Reading::Group, 0x05) => Meaning::Done(Command::Send(Reply::Status2)),
-            (Reading::Group, _) => Meaning::Refused(Refusal::UnknownCommand),
-            (Reading::Parameter(code), n) => Meaning::Done(with_parameter(code, n)),
-            (Reading::RepeatWhat, what) => Meaning::More(Reading::RepeatCount(what)),
-            (Reading::RepeatCount(what), n) => Meaning::Done(Command::Repeat(what, n)),
+            (Reading::Group, 0x05) => Ok(Meaning::Done(Command::Send(Reply::Status2))),
+            (Reading::Group, _) => Err(Refusal::UnknownCommand),
+            (Reading::Parameter(code), n) => Ok(Meaning::Done(with_parameter(code, n))),
+            (Reading::RepeatWhat, what) => Ok(Meaning::More(Reading::RepeatCount(what))),
+            (Reading::RepeatCount(what), n) => Ok(Meaning::Done(Command::Repeat(what, n))),
             (Reading::Collecting(collected), n) => collected.meaning(n),
         }
     }
 
     /// How many bytes of an unfinished command have come.
-    pub fn begun(&self) -> u8
+    pub fn begun(&self) -> usize
         ensures value { result ≡ length (begun (reading_of self.now)) }
         ensures few { result ≤ 41 }
     {
@@ -90,95 +87,93 @@ impl Reading {
 }
 
 impl Collected {
-    fn meaning(self, byte: u8) -> Meaning
+    fn meaning(self, byte: u8) -> Result<Meaning, Refusal>
         ensures { meaning_of result ≡ meaning (collected_of self) byte }
     {
-        match self {
-            Collected::BarParameters(got) => match got.add(byte) {
-                Filled::Part(got) => collecting(Collected::BarParameters(got)),
-                Filled::Whole(bytes) => collecting(Collected::BarString(
-                    bar_parameters(bytes),
+        Ok(match self {
+            Collected::BarParameters(mut got) => match got.push(byte) {
+                Ok(()) => collecting(Collected::BarParameters(got)),
+                Err(Full) => collecting(Collected::BarString(
+                    BarParameters::from(whole(got.as_slice(), byte)),
                     Short::new(),
                 )),
             },
-            Collected::BarString(parameters, mut string) => {
-                if byte == 0 {
-                    Meaning::Done(Command::BarCode(parameters, string))
-                } else if string.push(byte).is_ok() {
-                    collecting(Collected::BarString(parameters, string))
-                } else {
-                    Meaning::Refused(Refusal::TooLong)
-                }
-            }
-            Collected::VerticalList(mut stops) => {
-                if byte == 0 {
-                    Meaning::Done(Command::SetVerticalStops(stops))
-                } else if stops.push(byte).is_ok() {
-                    collecting(Collected::VerticalList(stops))
-                } else {
-                    Meaning::Refused(Refusal::TooLong)
-                }
-            }
-            Collected::HorizontalList(mut stops) => {
-                if byte == 0 {
-                    Meaning::Done(Command::SetHorizontalStops(stops))
-                } else if stops.push(byte).is_ok() {
-                    collecting(Collected::HorizontalList(stops))
-                } else {
-                    Meaning::Refused(Refusal::TooLong)
-                }
-            }
-            Collected::Body(replies, got) => match got.add(byte) {
-                Filled::Part(got) => collecting(Collected::Body(replies, got)),
-                Filled::Whole(body) => Meaning::Done(Command::Configure(replies, body)),
+            // Each list has a length and a command of its own; what the three share is `up_to_zero`.
+            Collected::BarString(parameters, string) => match up_to_zero(string, byte)? {
+                Some(string) => collecting(Collected::BarString(parameters, string)),
+                None => Meaning::Done(Command::BarCode(parameters, string)),
             },
-        }
+            Collected::VerticalList(stops) => match up_to_zero(stops, byte)? {
+                Some(stops) => collecting(Collected::VerticalList(stops)),
+                None => Meaning::Done(Command::SetVerticalStops(stops)),
+            },
+            Collected::HorizontalList(stops) => match up_to_zero(stops, byte)? {
+                Some(stops) => collecting(Collected::HorizontalList(stops)),
+                None => Meaning::Done(Command::SetHorizontalStops(stops)),
+            },
+            Collected::Body(replies, mut got) => match got.push(byte) {
+                Ok(()) => collecting(Collected::Body(replies, got)),
+                Err(Full) => Meaning::Done(Command::Configure(
+                    replies,
+                    whole(got.as_slice(), byte),
+                )),
+            },
+        })
     }
 
-    fn begun(&self) -> u8
+    fn begun(&self) -> usize
         ensures value { result ≡ length (begun (collected_of self.now)) }
         ensures few { result ≤ 41 }
     {
+        // Before what is collected stand 1B and a code, and before a bar code's string its parameters too.
         match self {
-            Collected::BarParameters(got) => 2 + got.len() as u8,
-            Collected::BarString(_, string) => 6 + string.len() as u8,
-            Collected::VerticalList(stops) => 2 + stops.len() as u8,
-            Collected::HorizontalList(stops) => 2 + stops.len() as u8,
-            Collected::Body(_, got) => 2 + got.len() as u8,
+            Collected::BarParameters(got) => 2 + got.len(),
+            Collected::BarString(_, string) => 6 + string.len(),
+            Collected::VerticalList(stops) => 2 + stops.len(),
+            Collected::HorizontalList(stops) => 2 + stops.len(),
+            Collected::Body(_, got) => 2 + got.len(),
         }
     }
 }
 
 fn collecting(collected: Collected) -> Meaning
-    ensures { meaning_of result ≡ more (collected_of collected) }
+    ensures { meaning_of (Ok result) ≡ more (collected_of collected) }
 {
     Meaning::More(Reading::Collecting(collected))
 }
 
 fn parameter(code: ParameterCode) -> Meaning
-    ensures { meaning_of result ≡ more (parameter code) }
+    ensures { meaning_of (Ok result) ≡ more (parameter code) }
 {
     Meaning::More(Reading::Parameter(code))
 }
 
-/// The parameters of a bar code, in the order in which they come.
-fn bar_parameters(bytes: [u8; 4]) -> BarParameters
-    requires { length bytes ≡ 4 }
-    ensures { parameters_of result ≡ bytes }
+/// One byte more of a list that a 00 ends: the list with the byte behind it, or none if the byte ends it.
+fn up_to_zero<const N: usize>(mut got: Short<N>, byte: u8) -> Result<Option<Short<N>>, Refusal>
+    ensures { UpToZero got.entry byte result }
 {
-    BarParameters {
-        kind: bytes[0],
-        width: bytes[1],
-        height: bytes[2],
-        shown: bytes[3],
+    if byte == 0 {
+        return Ok(None);
     }
+    got.push(byte).map_err(|_| Refusal::TooLong)?;
+    Ok(Some(got))
+}
+
+/// All N bytes: those that came before the last, and the last.
+fn whole<const N: usize>(before: &[u8], last: u8) -> [u8; N]
+    requires { length before.now + 1 ≡ N }
+    ensures { result ≡ before.now ++ last ∷ [] }
+{
+    let mut bytes = [last; N];
+    bytes[..before.len()].copy_from_slice(before);
+    bytes
 }
 
 /// A byte outside any command that is no text.
-fn single_byte(byte: u8) -> Meaning
+fn single_byte(byte: u8) -> Result<Meaning, Refusal>
     ensures { meaning_of result ≡ find unknown single_bytes byte }
 {
-    match byte {
+    Ok(match byte {
         0x00 | 0x0D => Meaning::Done(Command::Idle),
         0x1B => Meaning::More(Reading::Escape),
         0x1D => Meaning::More(Reading::Group),
@@ -194,15 +189,15 @@ fn single_byte(byte: u8) -> Meaning
         0x14 => Meaning::Done(Command::AttributesOff),
         0x11 => Meaning::Done(Command::SetEmphasised(true)),
         0x13 => Meaning::Done(Command::SetEmphasised(false)),
-        _ => Meaning::Refused(Refusal::UnknownCommand),
-    }
+        _ => return Err(Refusal::UnknownCommand),
+    })
 }
 
 /// The code after 1B.
-fn escape_code(byte: u8) -> Meaning
+fn escape_code(byte: u8) -> Result<Meaning, Refusal>
     ensures { meaning_of result ≡ find unknown escape_codes byte }
 {
-    match byte {
+    Ok(match byte {
         0xC3 => Meaning::Done(Command::Send(Reply::Identity)),
         0x70 => Meaning::Done(Command::PulseDrawer),
         0x45 | 0x47 => Meaning::Done(Command::SetEmphasised(true)),
@@ -224,12 +219,12 @@ fn escape_code(byte: u8) -> Meaning
         0x6C => parameter(ParameterCode::LeftMargin),
         0x51 => parameter(ParameterCode::RightMargin),
         0x6D => Meaning::Done(Command::Cut),
-        0x62 => collecting(Collected::BarParameters(Filling::new())),
-        0xC6 => collecting(Collected::Body(false, Filling::new())),
-        0xE4 => collecting(Collected::Body(true, Filling::new())),
+        0x62 => collecting(Collected::BarParameters(Short::new())),
+        0xC6 => collecting(Collected::Body(false, Short::new())),
+        0xE4 => collecting(Collected::Body(true, Short::new())),
         0x40 => Meaning::Done(Command::Reset),
-        _ => Meaning::Refused(Refusal::UnknownCommand),
-    }
+        _ => return Err(Refusal::UnknownCommand),
+    })
 }
 
 /// The command of a code that takes one parameter.
