@@ -7,8 +7,8 @@ use Rattle.action.specs.Owed.{owed_acts}
 use Rattle.reader.specs.Reading.{reading_of}
 use Rattle.printer.specs.Printer.{printer_of}
 use Rattle.interpreter.specs.declared.Interpreter.{Interpreter}
-use Rattle.interpreter.specs.declared.Taken.{Taken}
-use Rattle.interpreter.specs.declared.Taken.TheVariants.{Accepted, Refused, Ended, Owing}
+use Rattle.interpreter.specs.declared.StepFault.{StepFault}
+use Rattle.interpreter.specs.declared.StepFault.TheVariants.{Refused, Ended, Owing}
 
 -- what it is reading, and its printer
 abbrev pub state_of : Interpreter → job.State
@@ -31,9 +31,9 @@ pub record Takes (piece : List ℕ) (index : ℕ) (before : Interpreter) (refusa
       ◌≡◌ {A = job.Run} (record { acts = owes after; refusals = refusals; state = state_of after })
       (job.followed_by (job.stay (state_of before)) index (job.run_byte (state_of before) (slice_index piece index)))
 
--- a step and how it ended
-abbrev pub Steps : List ℕ → ℕ → Interpreter → Taken → Interpreter → Type 0
-Steps piece index before Accepted after = Takes piece index before [] after
-Steps piece index before (Refused why place) after = Takes piece index before ((why, place) ∷ []) after
-Steps piece index before Ended after = (owes before ≡ []) × (length piece ≤ index) × (after ≡ before)
-Steps piece index before Owing after = (owes before ≢ []) × (after ≡ before)
+-- a step and its answer
+abbrev pub Steps : List ℕ → ℕ → Interpreter → Result (Unit {0}) StepFault → Interpreter → Type 0
+Steps piece index before (Ok done) after = Takes piece index before [] after
+Steps piece index before (Err (Refused why place)) after = Takes piece index before ((why, place) ∷ []) after
+Steps piece index before (Err Ended) after = (owes before ≡ []) × (length piece ≤ index) × (after ≡ before)
+Steps piece index before (Err Owing) after = (owes before ≢ []) × (after ≡ before)

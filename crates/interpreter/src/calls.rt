@@ -1,16 +1,17 @@
 //! The calls of an interpreter.
-ghost use Rattle.std.specs.Prelude.{◌≡◌, ◌<◌, [], length, drop, pos, ◌+ℤ◌, neg_ℤ};
+ghost use Rattle.std.specs.Prelude.{◌≡◌, ◌<◌, ◌≤◌, [], length, drop, pos, ◌+ℤ◌, neg_ℤ};
 ghost use Rattle.job.specs.Invariants.{SettingsHold};
 ghost use Rattle.job.specs.Job.{new, step};
 ghost use Rattle.settings.specs.Settings.{settings_of};
 ghost use Rattle.interpreter.specs.Interpreter.{Steps, owes, state_of, step_of};
 
-use crate::{Interpreter, Taken};
+use crate::{Interpreter, StepFault};
 use action::owed::Owed;
 use printer::Printer;
 use reader::read_state::{Meaning, Reading};
 use reading::Refusal;
 use settings::Settings;
+use std::mem;
 
 impl Interpreter {
     /// Text is read, the printer is new, and nothing is owed.
@@ -25,21 +26,17 @@ impl Interpreter {
         }
     }
 
-    /// Takes the byte at an index of a piece, if nothing is owed.
-    pub fn step(&mut self, piece: &[u8], index: usize) -> Taken
+    /// Takes the byte at an index of a piece, if nothing is owed; what it orders is owed then.
+    pub fn step(&mut self, piece: &[u8], index: usize) -> Result<(), StepFault>
         ensures { Steps piece.now index self.old result self.new }
     {
         if !self.owed.is_empty() {
-            return Taken::Owing;
+            return Err(StepFault::Owing);
         }
-        if index >= piece.len() {
-            return Taken::Ended;
-        }
+        let byte = *piece.get(index).ok_or(StepFault::Ended)?;
         let begun = self.reading.begun();
-        match self.read(piece[index]) {
-            Ok(()) => Taken::Accepted,
-            Err(why) => Taken::Refused(why, place(piece, index, begun)),
-        }
+        self.read(byte)
+            .map_err(|why| StepFault::Refused(why, place(piece, index, begun)))
     }
 
     /// Takes a byte when nothing is owed.
@@ -47,20 +44,12 @@ impl Interpreter {
         requires { owes self.old ≡ [] }
         ensures { step_of result self.new ≡ step (state_of self.old) byte }
     {
-        match self.reading.meaning(byte) {
-            Meaning::More(reading) => {
-                self.reading = reading;
-                Ok(())
-            }
-            Meaning::Done(command) => {
-                self.reading = Reading::Text;
-                self.printer.carry_out(command, &mut self.owed)
-            }
-            Meaning::Refused(why) => {
-                self.reading = Reading::Text;
-                Err(why)
-            }
+        // Text is read behind each byte, unless more of a command is to come.
+        match mem::replace(&mut self.reading, Reading::Text).meaning(byte)? {
+            Meaning::More(reading) => self.reading = reading,
+            Meaning::Done(command) => self.printer.carry_out(command, &mut self.owed)?,
         }
+        Ok(())
     }
 
     /// The settings behind the bytes taken, within their bounds; attributes, one-line width and line number are among them.
@@ -88,8 +77,8 @@ impl Interpreter {
 }
 
 /// The place, counted from a piece's start, that lies so many bytes before an index of the piece.
-fn place(piece: &[u8], index: usize, before: u8) -> isize
-    requires { index < length piece.now }
+fn place(piece: &[u8], index: usize, before: usize) -> isize
+    requires { (index < length piece.now) × (before ≤ 41) }
     ensures { result ≡ pos index +ℤ neg_ℤ (pos before) }
 {
     index as isize - before as isize

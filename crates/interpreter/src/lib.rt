@@ -16,11 +16,9 @@ pub struct Interpreter {
     owed: Owed,
 }
 
-/// How a step ended.
-#[derive(Clone, Copy)]
-pub enum Taken {
-    /// The byte was taken; what it ordered is owed.
-    Accepted,
+/// What kept a step from being taken, or its command from being carried out.
+#[derive(Clone, Copy, PartialEq, Eq)]
+pub enum StepFault {
     /// The byte was taken, and its command refused. The place of the command's first byte counts from the piece's start;
     /// it is negative if the command began in an earlier piece.
     Refused(Refusal, isize),
