@@ -4,30 +4,32 @@
 
 use anyhow::anyhow;
 use hexadecimal::decode;
-use interpreter::{Interpreter, Taken};
+use interpreter::{Interpreter, StepFault};
+use reading::Refusal;
 use std::io::{BufRead, BufReader};
 use std::mem::size_of;
 
 /// Takes all bytes of a stream, drops what they order, and counts the refused commands.
-fn refusals(stream: &[u8]) -> u32 {
+fn refusals(stream: &[u8]) -> usize {
     let mut interpreter = Interpreter::new();
-    let mut refused = 0u32;
-    for index in 0..stream.len() {
-        if let Taken::Refused(_, _) = interpreter.step(stream, index) {
-            refused = refused.saturating_add(1);
-        }
-        drop_owed(&mut interpreter);
-    }
-    refused
+    (0..stream.len())
+        .filter(|index| take_byte(&mut interpreter, stream, *index).is_some())
+        .count()
 }
 
-/// Removes all that is owed: one byte orders at most a row, 255 advances and another action.
-fn drop_owed(interpreter: &mut Interpreter) {
-    for _turn in 0..257 {
-        if interpreter.owed().is_empty() {
-            return;
-        }
+/// Takes a byte, drops what it orders, and answers the refusal of its command with the place.
+fn take_byte(
+    interpreter: &mut Interpreter,
+    piece: &[u8],
+    index: usize,
+) -> Option<(Refusal, isize)> {
+    let step = interpreter.step(piece, index);
+    for _ in 0..interpreter.owed().len() {
         interpreter.remove_first();
+    }
+    match step {
+        Err(StepFault::Refused(why, place)) => Some((why, place)),
+        Err(StepFault::Ended | StepFault::Owing) | Ok(()) => None,
     }
 }
 
@@ -45,7 +47,7 @@ fn compare_table(rt: &HostRuntime) -> anyhow::Result<u32> {
         let Some((_, expected)) = rest.split_once(' ') else {
             return Err(anyhow!("a row of the table has no second space"));
         };
-        if refusals(&decode(rt.alloc(), stream.as_bytes())?) != expected.parse::<u32>()? {
+        if refusals(&decode(rt.alloc(), stream.as_bytes())?) != expected.parse::<usize>()? {
             rt.eprintln(stream)?;
             return Err(anyhow!("this stream's refused commands differ from the table"));
         }
@@ -59,11 +61,10 @@ fn show_refusals(rt: &HostRuntime, name: &str, pieces: &[&[u8]]) -> anyhow::Resu
     let mut interpreter = Interpreter::new();
     for piece in pieces {
         for index in 0..piece.len() {
-            if let Taken::Refused(why, place) = interpreter.step(piece, index) {
+            if let Some((why, place)) = take_byte(&mut interpreter, piece, index) {
                 let number = why.number();
                 println!(rt; "{name}: {number} at {place}")?;
             }
-            drop_owed(&mut interpreter);
         }
     }
     let line = interpreter.settings().paper().line;
