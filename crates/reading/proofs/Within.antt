@@ -1,11 +1,12 @@
 -- A byte either adds to the command that is being read, within its length, or ends it.
-use Rattle.std.proofs.Common.{◌≡◌, ℕ, ◌+◌, ◌<◌, ◌≤◌, Bool, true, false, cond, eqb, ltb, List, [], ◌∷◌, ◌++◌, length, sym, refl, ap, subst, append_assoc, arith, length-append, rules}
+use Rattle.std.proofs.Common.{◌≡◌, ℕ, ◌<◌, ◌≤◌, Bool, true, false, cond, eqb, List, [], ◌∷◌, ◌++◌, length, refl, subst, append_assoc, arith, length-append, rules}
 use Rattle.std.specs.List.{AllByRecursion}
 use Rattle.std.proofs.lemmas.List.{length_push, append-nil}
-use Rattle.std.proofs.lemmas.Bool.{eqb-true, ltb-true, ltb-false}
+use Rattle.std.proofs.lemmas.Bool.{eqb-true}
+use Rattle.std.proofs.lemmas.Bool.Decides.{nat_tests}
 use Rattle.reading.specs.Tests.{find}
-use Rattle.reading.specs.Commands.{Command, bar_code, set_vertical_stops, set_horizontal_stops, configure, print}
-use Rattle.reading.specs.Reading.{Reading, text, escape, group, parameter, repeat_what, repeat_count, bar_parameters, bar_string, vertical_list, horizontal_list, body, Meaning, more, done, refused, complete, unknown, too_long, is_text, single_bytes, escape_codes, group_codes, up_to_zero, meaning}
+use Rattle.reading.specs.Commands.{print}
+use Rattle.reading.specs.Reading.{Reading, text, escape, group, parameter, repeat_what, repeat_count, bar_parameters, bar_string, vertical_list, horizontal_list, body, Meaning, more, done, refused, complete, unknown, is_text, single_bytes, escape_codes, group_codes, meaning}
 use Rattle.reading.specs.Unfinished.{begun}
 
 -- no more bytes have come than the command has room for
@@ -49,16 +50,6 @@ escape_rows = search rules
 group_rows : AllByRecursion (λ row. Moves ((0x1D ∷ []) ++ row.0 ∷ []) row.1) group_codes
 group_rows = search rules
 
-listed : (most : ℕ) (command : List ℕ → Command) (reading : List ℕ → Reading) (got bs : List ℕ) (b : ℕ)
-    → (length got < most → Moves bs (more (reading (got ++ b ∷ [])))) → Moves bs (up_to_zero most command reading got b)
-listed most command reading got bs b f =
-    chosen bs (eqb b 0) (complete (command got)) (cond (ltb (length got) most) (more (reading (got ++ b ∷ []))) too_long) (λ e. refl)
-    (λ e. chosen bs (ltb (length got) most) (more (reading (got ++ b ∷ []))) too_long (λ k. f (ltb-true (length got) most k)) (λ k. refl))
-
-begun_body : (replies : Bool) (got : List ℕ) (b : ℕ) → begun (body replies (got ++ b ∷ [])) ≡ begun (body replies got) ++ b ∷ []
-begun_body true got b = refl
-begun_body false got b = refl
-
 pub moves : (r : Reading) (b : ℕ) → Within r → Moves (begun r ++ b ∷ []) (meaning r b)
 moves text b h = chosen (b ∷ []) (is_text b) (complete (print b)) (find unknown single_bytes b) (λ e. refl) (λ e. found [] single_bytes b single_rows)
 moves escape b h = found (0x1B ∷ []) escape_codes b escape_rows
@@ -66,38 +57,13 @@ moves group b h = found (0x1D ∷ []) group_codes b group_rows
 moves (parameter code) b h = refl
 moves repeat_what b h = (tt, refl)
 moves (repeat_count what) b h = refl
-moves (bar_parameters got) b h =
-    let ps : List ℕ = got ++ b ∷ [] in
-    let long : length ps ≡ length got + 1 = length_push got b in
-    chosen (0x1B ∷ 0x62 ∷ ps) (ltb (length ps) 4) (more (bar_parameters ps)) (more (bar_string ps []))
-    (λ e. (ltb-true (length ps) 4 e, refl))
-    (λ e. ((omega (arith, ltb-false (length ps) 4 e), omega arith), ap (λ (l : List ℕ). 0x1B ∷ 0x62 ∷ l) (append-nil ps)))
-moves (bar_string ps got) b h =
-    let long : length (got ++ b ∷ []) ≡ length got + 1 = length_push got b in
-    listed 25 (bar_code ps) (bar_string ps) got (begun (bar_string ps got) ++ b ∷ []) b
-    (λ k. ((h.0, omega arith), ap (λ (l : List ℕ). 0x1B ∷ 0x62 ∷ l) (sym (append_assoc ps got (b ∷ [])))))
-moves (vertical_list got) b h =
-    let long : length (got ++ b ∷ []) ≡ length got + 1 = length_push got b in
-    listed 16 set_vertical_stops vertical_list got (begun (vertical_list got) ++ b ∷ []) b (λ k. (omega arith, refl))
-moves (horizontal_list got) b h =
-    let long : length (got ++ b ∷ []) ≡ length got + 1 = length_push got b in
-    listed 8 set_horizontal_stops horizontal_list got (begun (horizontal_list got) ++ b ∷ []) b (λ k. (omega arith, refl))
-moves (body replies got) b h =
-    let bs : List ℕ = got ++ b ∷ [] in
-    chosen (begun (body replies got) ++ b ∷ []) (ltb (length bs) 40) (more (body replies bs)) (complete (configure replies bs))
-    (λ e. (ltb-true (length bs) 40 e, begun_body replies got b)) (λ e. refl)
+moves (bar_parameters got) b h = grind (arith, nat_tests, length_push, append-nil)
+moves (bar_string ps got) b h = grind (arith, nat_tests, length_push, append_assoc)
+moves (vertical_list got) b h = grind (arith, nat_tests, length_push)
+moves (horizontal_list got) b h = grind (arith, nat_tests, length_push)
+moves (body true got) b h = grind (arith, nat_tests, length_push)
+moves (body false got) b h = grind (arith, nat_tests, length_push)
 
 -- so at most 41 bytes have come
 pub few : (r : Reading) → Within r → length (begun r) ≤ 41
-few text h = omega arith
-few escape h = omega arith
-few group h = omega arith
-few (parameter code) h = omega arith
-few repeat_what h = omega arith
-few (repeat_count what) h = omega arith
-few (bar_parameters got) h = omega arith
-few (bar_string ps got) h = omega (arith, length-append ps got)
-few (vertical_list got) h = omega arith
-few (horizontal_list got) h = omega arith
-few (body true got) h = omega arith
-few (body false got) h = omega arith
+few r h = grind (arith, length-append)

@@ -53,6 +53,7 @@ pub enum Refusal {
 
 impl Refusal {
     /// The number under which the refusal is reported.
+    // `refusal.number()` says what is meant; `u8::from(refusal)` would not.
     pub fn number(self) -> u8
         ensures { result ≡ refusal_number self }
     {
