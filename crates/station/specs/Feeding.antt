@@ -9,6 +9,7 @@ use Rattle.runs.specs.Feeds.{FeedsTo, ended}
 use Rattle.runs.specs.Offers.{Settled}
 use Rattle.runs.specs.Outcomes.{Outcome}
 use Rattle.runs.specs.declared.fault.RefusedCommand.{RefusedCommand}
+use Rattle.runs.specs.declared.fault.FeedFault.TheVariants.{Command, Mechanism}
 use Rattle.runs.specs.Stands.{Keeps}
 
 -- what was owed is taken, in order, until nothing is left or an action is refused; no byte is read
@@ -20,6 +21,12 @@ pub record Settles {S : Type 0} (g : Ghosts S) (i : Interpreter) (m : S) (r : Re
 abbrev pub TakesByte : List ℕ → ℕ → Interpreter → Result Unit RefusedCommand → Interpreter → Type 0
 TakesByte piece index i (Ok _) j = Takes piece index i [] j
 TakesByte piece index i (Err c) j = Takes piece index i ((c.refusal, c.place) ∷ []) j
+
+-- a byte of a piece is taken, and what it orders is offered; how it ended says which of the two was refused, if any was
+abbrev pub FeedsByte : {S : Type 0} → Ghosts S → List ℕ → ℕ → Interpreter → S → Outcome → Interpreter → S → Type 0
+FeedsByte g piece index i m (Ok _) j n = (taken : Interpreter) × TakesByte piece index i (Ok tt) taken × Settles g taken m (Ok tt) j n
+FeedsByte g piece index i m (Err (Command c)) j n = TakesByte piece index i (Err c) j × (n ≡ m)
+FeedsByte g piece index i m (Err (Mechanism f)) j n = (taken : Interpreter) × TakesByte piece index i (Ok tt) taken × Settles g taken m (Err f) j n
 
 -- one feed of a piece: so many bytes taken, and this outcome
 abbrev pub Fed : {S : Type 0} → Ghosts S → Interpreter → S → List ℕ → ℕ → Outcome → Interpreter → S → Type 0

@@ -4,10 +4,10 @@ ghost use Rattle.action.specs.Meanings.{act_of};
 ghost use Rattle.mechanism.specs.Mechanisms.{Acted};
 ghost use Rattle.interpreter.specs.Interpreter.{owes};
 ghost use Rattle.runs.specs.Calls.{fed};
-ghost use Rattle.station.specs.Feeding.{Extends, Fed, Settles, TakesByte};
+ghost use Rattle.station.specs.Feeding.{Extends, Fed, FeedsByte, Settles, TakesByte};
 
 use action::actions::Action;
-use interpreter::{Interpreter, Taken};
+use interpreter::{Interpreter, StepFault};
 use mechanism::fault::Fault;
 use mechanism::mechanism::Mechanism;
 use runs::fault::{FeedFault, RefusedCommand};
@@ -40,33 +40,27 @@ fn take_byte(
     ensures { TakesByte piece.now index interpreter.old result interpreter.new }
 {
     match interpreter.step(piece, index) {
-        Taken::Accepted => Ok(()),
-        Taken::Refused(refusal, place) => Err(RefusedCommand {
+        Ok(()) => Ok(()),
+        Err(StepFault::Refused(refusal, place)) => Err(RefusedCommand {
             refusal,
             place: place as i64,
         }),
-        Taken::Ended => unreachable(),
-        Taken::Owing => unreachable(),
+        Err(StepFault::Ended | StepFault::Owing) => unreachable(),
     }
 }
 
-/// Feeds a piece, and counts the bytes taken.
-fn run<M: Mechanism>(
+/// Takes a byte of a piece when nothing is owed, and offers what it orders.
+fn feed_byte<M: Mechanism>(
     interpreter: &mut Interpreter,
     mechanism: &mut M,
     piece: &[u8],
-    taken: &mut usize,
+    index: usize,
 ) -> Result<(), FeedFault>
-    requires { taken.old ≡ 0 }
-    ensures { Fed M.Mechanism interpreter.old mechanism.old piece.now taken.new result interpreter.new mechanism.new }
+    requires { (owes interpreter.old ≡ []) × (index < length piece.now) }
+    ensures { FeedsByte M.Mechanism piece.now index interpreter.old mechanism.old result interpreter.new mechanism.new }
 {
+    take_byte(interpreter, piece, index)?;
     settle(interpreter, mechanism)?;
-    while *taken < piece.len() {
-        let index = *taken;
-        *taken += 1;
-        take_byte(interpreter, piece, index)?;
-        settle(interpreter, mechanism)?;
-    }
     Ok(())
 }
 
@@ -80,7 +74,13 @@ pub fn feed<M: Mechanism>(
     ensures course { Fed M.Mechanism interpreter.old mechanism.old piece.now result.0 result.1 interpreter.new mechanism.new }
     ensures stands { Extends M.Mechanism (fed piece.now result.0 result.1) interpreter.old mechanism.old interpreter.new mechanism.new }
 {
-    let mut taken = 0;
-    let outcome = run(interpreter, mechanism, piece, &mut taken);
-    (taken, outcome)
+    if let Err(fault) = settle(interpreter, mechanism) {
+        return (0, Err(FeedFault::from(fault)));
+    }
+    for index in 0..piece.len() {
+        if let Err(fault) = feed_byte(interpreter, mechanism, piece, index) {
+            return (index + 1, Err(fault));
+        }
+    }
+    (piece.len(), Ok(()))
 }

@@ -20,6 +20,7 @@ use settings::Settings;
 
 impl<M: Mechanism> Station<M> {
     /// A new interpreter beside this mechanism: no call has been made.
+    #[tactic(auto, using(runs::proofs::Standing::new_stands))]
     pub fn new(mechanism: M) -> Station<M>
         ensures meets { result.mechanism ≡ mechanism }
         ensures stands { At M.Mechanism (viewed M.Mechanism mechanism) [] result }
@@ -39,6 +40,7 @@ impl<M: Mechanism> Station<M> {
     }
 
     /// The cover is opened or closed.
+    #[tactic(auto, using(runs::proofs::Standing::cover_keeps))]
     pub fn cover(&mut self, opened: bool)
         ensures does { Covered M.Mechanism.sheet M.Mechanism.reserve M.Mechanism.stopped M.Mechanism.stays self.old.mechanism opened self.new.mechanism }
         ensures keeps { self.new.interpreter ≡ self.old.interpreter }
@@ -48,6 +50,7 @@ impl<M: Mechanism> Station<M> {
     }
 
     /// Offers the mechanism more reserve, and answers how much it granted.
+    #[tactic(auto, using(runs::proofs::Standing::supply_keeps))]
     pub fn supply(&mut self, offered: u32) -> u32
         ensures does { Supplied M.Mechanism.sheet M.Mechanism.reserve M.Mechanism.stopped M.Mechanism.grants M.Mechanism.stays self.old.mechanism offered result self.new.mechanism }
         ensures keeps { self.new.interpreter ≡ self.old.interpreter }
@@ -57,6 +60,7 @@ impl<M: Mechanism> Station<M> {
     }
 
     /// The mechanism's status bytes.
+    #[tactic(auto, using(runs::proofs::Standing::status_keeps))]
     pub fn status(&self) -> Status
         ensures value { result ≡ status_of (M.Mechanism.reserve self.now.mechanism) (M.Mechanism.stopped self.now.mechanism) }
         ensures stands { Calling M.Mechanism (status_call result) self.now self.now }
@@ -65,6 +69,7 @@ impl<M: Mechanism> Station<M> {
     }
 
     /// The settings behind the bytes taken.
+    #[tactic(auto, using(runs::proofs::Standing::settings_keeps))]
     pub fn settings(&self) -> &Settings
         ensures value { settings_of result.now ≡ (state_of self.now.interpreter).printer.settings }
         ensures stands { Calling M.Mechanism (settings_call (settings_of result.now)) self.now self.now }
