@@ -20,6 +20,7 @@ fn offer<M: Mechanism>(mechanism: &mut M, action: &Action) -> Result<(), Fault>
 }
 
 /// Offers what is owed, the first first, until nothing is owed or the mechanism refuses.
+#[tactic(auto, using(runs::proofs::Settling::settling_none, runs::proofs::Settling::settling_more, runs::proofs::Settling::settling_ends))]
 fn settle<M: Mechanism>(interpreter: &mut Interpreter, mechanism: &mut M) -> Result<(), Fault>
     ensures { Settles M.Mechanism interpreter.old mechanism.old result interpreter.new mechanism.new }
 {

@@ -1,24 +1,12 @@
-use Rattle.std.proofs.Common.{◌≡◌, ◌∷◌, Err, sym, refl, ap, ◌∙◌, subst}
-use Rattle.action.specs.Meanings.{act_of}
+use Rattle.std.proofs.Common.{Err, sym, ap, ◌∙◌, subst}
 use Rattle.interpreter.specs.Interpreter.{owes}
-use Rattle.runs.proofs.Settling.{settling_none, settling_more, settling_ends, settling_stuck}
+use Rattle.runs.proofs.Settling.{settling_stuck}
 use Rattle.runs.proofs.Exits.{at_exit}
 use Rattle.runs.specs.Offers.{Settled}
 use Rattle.action.specs.declared.owed.Owed.{Owed}
 use Rattle.action.specs.Owed.{owed_acts}
 use Rattle.station.specs.Feeding.{Settles}
 use Rattle.station.proofs.feeding.settle.Goals as goal
-
-pub loop-action-init : goal.loop-action-init
-loop-action-init g c = (settling_none g.M.Mechanism _ _, refl)
-
-pub loop-action-preserved : goal.loop-action-preserved
-loop-action-preserved g c =
-    let first = c.in-Some.ensures in
-    let was = c.owed.ensures in
-    let gone = c.remove_first.ensures.owed in
-    let next : owes c.loop-action.interpreter ≡ act_of c.in-Some.action ∷ owes c.remove_first.new.self = cc in
-    (settling_more g.M.Mechanism _ _ _ _ _ _ _ c.loop-action.invariant.0 next c.in_ok-offer.ensures, c.remove_first.ensures.state ∙ c.loop-action.invariant.1)
 
 pub returns-in_err-offer : goal.returns-in_err-offer
 returns-in_err-offer g c =
@@ -29,8 +17,3 @@ returns-in_err-offer g c =
     let P : g.row.M.Denot → Type 0 = λ n. Settled m (owes c.args.interpreter.now) c.args.mechanism.now (Err f) (owes c.loop-action.interpreter) n in
     at_exit (λ r. Settles m c.args.interpreter.now c.args.mechanism.now r c.loop-action.interpreter c.offer.new.mechanism) c.from_residual.result f c.from_residual.ensures.1
     (record { settled = subst P (sym h.1) (settling_stuck m _ _ _ _ _ _ f c.loop-action.invariant.0 next h.0); state = c.loop-action.invariant.1 })
-
-pub returns : goal.returns
-returns g c =
-    let none = ap (λ (o : Owed). owed_acts o) (sym c.owed.ensures) ∙ c.in_default.ensures in
-    record { settled = settling_ends g.M.Mechanism _ _ _ _ c.loop-action.invariant.0 none; state = c.loop-action.invariant.1 }
