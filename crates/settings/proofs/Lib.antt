@@ -1,2 +1,2 @@
 pub mod Bounds
-mod Loops
+mod Lists

@@ -1,2 +1,3 @@
+pub mod Stops
 pub mod Settings
 pub mod Body

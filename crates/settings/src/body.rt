@@ -43,8 +43,5 @@ fn switch(byte: u8) -> Option<bool>
 fn digit(byte: u8) -> Option<u8>
     ensures { MatchOption result (is_digit byte ≡ false) (λ d. (is_digit byte ≡ true) × (d ≡ byte - 0x30)) }
 {
-    match byte {
-        b'0'..=b'9' => Some(byte - b'0'),
-        _ => None,
-    }
+    byte.is_ascii_digit().then(|| byte - b'0')
 }

@@ -1,11 +1,10 @@
 //! What the settings are.
-ghost use Rattle.std.specs.Prelude.{◌≡◌, ◌≤◌};
+ghost use Rattle.std.specs.Prelude.{◌≡◌, ◌<◌, ◌≤◌, MatchOption};
 ghost use Rattle.job.specs.Lines.{lines_to_page, lines_to_stop};
 ghost use Rattle.job.specs.Row.{next_attributes, next_beyond};
 ghost use Rattle.settings.specs.Settings.{settings_of};
 
 use crate::Settings;
-use crate::stops::first_beyond;
 use job::cells::Attributes;
 use job::settings::{Cutter, Margins, Paper};
 
@@ -67,11 +66,12 @@ impl Settings {
         }
     }
 
-    /// The column of the first horizontal stop beyond a position; 0 if there is none.
-    pub fn stop_beyond(&self, position: u8) -> u16
-        ensures { result ≡ next_beyond (settings_of self.now).margins.left position (settings_of self.now).horizontal_stops }
+    /// The column of the first horizontal stop beyond a position, if there is one.
+    pub fn stop_beyond(&self, position: u8) -> Option<u16>
+        ensures { MatchOption result (next_beyond (settings_of self.now).margins.left position (settings_of self.now).horizontal_stops ≡ 0) (λ column. (column ≡ next_beyond (settings_of self.now).margins.left position (settings_of self.now).horizontal_stops) × (position < column)) }
     {
-        first_beyond(self.horizontal_stops(), self.margins.left, position)
+        self.horizontal_stops
+            .first_beyond(self.margins.left, position)
     }
 
     /// How many line feeds lead to the next vertical stop within the page; one if there is none.
@@ -80,11 +80,9 @@ impl Settings {
         ensures some { 1 ≤ result }
     {
         let line = self.paper.line;
-        let stop = first_beyond(self.vertical_stops(), 0, line);
-        if (line as u16) < stop && stop <= self.paper.page as u16 {
-            stop as u8 - line
-        } else {
-            1
+        match self.vertical_stops.first_beyond(0, line) {
+            Some(stop) if stop <= u16::from(self.paper.page) => stop as u8 - line,
+            _ => 1,
         }
     }
 

@@ -1,10 +1,7 @@
 //! The printer's settings, always within their bounds.
 #![tactic(auto)]
 
-ghost use Rattle.std.specs.Prelude.{◌≡◌, ◌+◌, ◌<◌, ◌≤◌, true};
-ghost use Rattle.job.specs.Changes.{rising};
-ghost use Rattle.reading.specs.Tests.{between, every};
-ghost use Rattle.short.specs.Short.{listed};
+ghost use Rattle.std.specs.Prelude.{◌≡◌, ◌+◌, ◌<◌, ◌≤◌};
 
 pub mod body;
 mod getters;
@@ -13,7 +10,7 @@ mod stops;
 
 use job::cells::Attributes;
 use job::settings::{Cutter, Margins, Paper};
-use short::Short;
+use stops::{HorizontalStops, VerticalStops};
 
 /// What commands set.
 #[derive(Clone, Copy)]
@@ -21,8 +18,8 @@ pub struct Settings {
     attributes: Attributes,
     one_line_width: bool,
     margins: Margins,
-    horizontal_stops: Short<8>,
-    vertical_stops: Short<16>,
+    horizontal_stops: HorizontalStops,
+    vertical_stops: VerticalStops,
     paper: Paper,
     cutter: Cutter,
     ghost first: { 1 ≤ margins.left },
@@ -33,9 +30,5 @@ pub struct Settings {
     ghost counted: { 1 ≤ paper.line },
     ghost paged: { paper.line ≤ paper.page },
     ghost short: { paper.page ≤ 127 },
-    ghost columns_rise: { rising 0 (listed horizontal_stops) ≡ true },
-    ghost columns_reach: { every (between 1 47) (listed horizontal_stops) ≡ true },
-    ghost lines_rise: { rising 0 (listed vertical_stops) ≡ true },
-    ghost lines_reach: { every (between 1 127) (listed vertical_stops) ≡ true },
     ghost few: { cutter.lines ≤ 20 },
 }

@@ -1,50 +1,94 @@
 //! Lists of stops.
-ghost use Rattle.std.specs.Prelude.{◌≡◌};
+ghost use Rattle.std.specs.Prelude.{◌≡◌, ◌<◌, true, false, [], ◌∷◌, MatchOption, MatchResult};
 ghost use Rattle.reading.specs.Tests.{between, every};
+ghost use Rattle.reading.specs.declared.Refusal.TheVariants.{OutOfRange};
 ghost use Rattle.job.specs.Changes.{rising};
 ghost use Rattle.job.specs.Row.{next_beyond};
+ghost use Rattle.short.specs.Short.{listed};
+
+use reading::Refusal;
+use short::Short;
+use std::iter;
+
+/// At most N stops that rise, each from 1 to MOST.
+#[derive(Clone, Copy)]
+pub(crate) struct Stops<const N: usize, const MOST: u8> {
+    places: Short<N>,
+    ghost rise: { rising 0 (listed places) ≡ true },
+    ghost reach: { every (between 1 MOST) (listed places) ≡ true },
+}
+
+/// Columns, counted from the left margin.
+pub(crate) type HorizontalStops = Stops<8, 47>;
+
+/// Lines of the page.
+pub(crate) type VerticalStops = Stops<16, 127>;
+
+impl<const N: usize, const MOST: u8> Stops<N, MOST> {
+    ghost use Rattle.settings.specs.Stops.{stops_in_range};
+
+    /// No stops.
+    pub(crate) fn none() -> Stops<N, MOST>
+        ensures { listed result.places ≡ [] }
+    {
+        Stops {
+            places: Short::new(),
+        }
+    }
+
+    /// These stops, if they rise and none lies out of reach.
+    pub(crate) fn new(places: Short<N>) -> Result<Stops<N, MOST>, Refusal>
+        ensures { MatchResult result (λ stops. (stops_in_range MOST (listed places.entry) ≡ true) × (listed stops.places ≡ listed places.entry)) (λ why. (stops_in_range MOST (listed places.entry) ≡ false) × (why ≡ OutOfRange)) }
+    {
+        if rise(places.as_slice()) && reach(places.as_slice(), MOST) {
+            Ok(Stops { places })
+        } else {
+            Err(Refusal::OutOfRange)
+        }
+    }
+
+    /// The stops, from the first to the last.
+    pub(crate) fn as_slice(&self) -> &[u8]
+        ensures { result.now ≡ listed self.now.places }
+    {
+        self.places.as_slice()
+    }
+
+    /// Where the first stop lies that, counted from an origin, is beyond a limit, if there is one.
+    pub(crate) fn first_beyond(&self, origin: u8, limit: u8) -> Option<u16>
+        ensures { MatchOption result (next_beyond origin limit (listed self.now.places) ≡ 0) (λ place. (place ≡ next_beyond origin limit (listed self.now.places)) × (limit < place)) }
+    {
+        self.as_slice()
+            .iter()
+            .map(|stop| u16::from(origin) + u16::from(*stop))
+            .find(|place| u16::from(limit) < *place)
+    }
+}
+
+impl HorizontalStops {
+    /// The stops until others are programmed.
+    pub(crate) fn by_default() -> HorizontalStops
+        ensures { listed result.places ≡ 8 ∷ 16 ∷ 24 ∷ 32 ∷ 40 ∷ [] }
+    {
+        Stops {
+            places: Short::leading(&[8, 16, 24, 32, 40]),
+        }
+    }
+}
 
 /// Whether each is above the one before, and the first above 0.
-pub(crate) fn rise(stops: &[u8]) -> bool
+fn rise(stops: &[u8]) -> bool
     ensures { result ≡ rising 0 stops.now }
 {
-    let mut last = 0;
-    for stop in stops {
-        if *stop <= last {
-            return false;
-        }
-        last = *stop;
-    }
-    true
+    iter::once(0)
+        .chain(stops.iter().copied())
+        .zip(stops)
+        .all(|(last, stop)| last < *stop)
 }
 
-fn is_between(n: u8, low: u8, high: u8) -> bool
-    ensures { result ≡ between low high n }
+/// Whether each lies from 1 to a limit.
+fn reach(stops: &[u8], most: u8) -> bool
+    ensures { result ≡ every (between 1 most) stops.now }
 {
-    low <= n && n <= high
-}
-
-/// Whether each lies from `low` to `high`.
-pub(crate) fn all_between(stops: &[u8], low: u8, high: u8) -> bool
-    ensures { result ≡ every (between low high) stops.now }
-{
-    for stop in stops {
-        if !is_between(*stop, low, high) {
-            return false;
-        }
-    }
-    true
-}
-
-/// The first that, counted from an origin, lies beyond a limit; 0 if there is none.
-pub(crate) fn first_beyond(stops: &[u8], origin: u8, limit: u8) -> u16
-    ensures { result ≡ next_beyond origin limit stops.now }
-{
-    for stop in stops {
-        let place = origin as u16 + *stop as u16;
-        if (limit as u16) < place {
-            return place;
-        }
-    }
-    0
+    stops.iter().all(|stop| (1..=most).contains(stop))
 }
