@@ -1,8 +1,11 @@
 -- What a printer stands for, and what its commands do.
-use Rattle.std.specs.Prelude.{◌≡◌, List, Some, None, Ok, Err, Result}
+use Rattle.std.specs.Prelude.{◌≡◌, ℕ, Bool, true, false, List, [], Some, None, Ok, Err, Result, MatchResult, ◌==◌, nat_le}
+use Rattle.std.specs.Borrow.{MutBor}
 use Rattle.reading.specs.declared.Refusal.{Refusal}
+use Rattle.reading.specs.declared.Refusal.TheVariants.{OutOfRange}
 use Rattle.reading.specs.Commands.{Command}
 use Rattle.reading.specs.Reading.{text}
+use Rattle.job.specs.declared.cells.Attributes.{Attributes}
 use Rattle.job.specs.Actions.{Act}
 use Rattle.job.specs.Printer as job
 use Rattle.job.specs.Effects.{Effect}
@@ -32,3 +35,19 @@ answered (Err why) acts p = record { acts = acts; refusal = Some why; next = rec
 abbrev pub Carries : Command → Printer → Result (Unit {0}) Refusal → List Act → Printer → Type 0
 Carries c before r acts after =
     answered r acts (printer_of after) ≡ carry_out (in_range c (printer_of before)) c text (printer_of before)
+
+-- an effect where nothing was owed
+abbrev pub DoesAlone : (job.Printer → Effect) → Printer → Owed → Owed → Printer → Type 0
+DoesAlone f before owed_before owed after = owed_acts owed_before ≡ [] → Does f before owed after
+
+-- a complete command where nothing was owed
+abbrev pub CarriesAlone : Command → Printer → Owed → Result (Unit {0}) Refusal → Owed → Printer → Type 0
+CarriesAlone c before owed_before r owed after = owed_acts owed_before ≡ [] → Carries c before r (owed_acts owed) after
+
+-- a parameter of 0 or 1 sets an attribute in place, as the first argument tells; any other is refused
+abbrev pub Switches : (MutBor Attributes → Bool → MutBor Attributes → Type 0) → ℕ → Printer → Result (Unit {0}) Refusal → Printer → Type 0
+Switches Sets n before r after =
+    MatchResult r
+    (λ _. (nat_le n 1 ≡ true) × (p : MutBor Attributes) × (q : MutBor Attributes) × (p.now ≡ before.settings.attributes) × Sets p (n == 1) q
+    × (printer_of after ≡ job.change (job.with_attributes q.now) (printer_of before)))
+    (λ why. (nat_le n 1 ≡ false) × (why ≡ OutOfRange) × (printer_of after ≡ printer_of before))

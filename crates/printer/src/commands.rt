@@ -2,7 +2,7 @@
 ghost use Rattle.std.specs.Prelude.{◌≡◌, []};
 ghost use Rattle.action.specs.Owed.{owed_acts};
 ghost use Rattle.reader.specs.Commands.{command_of};
-ghost use Rattle.printer.specs.Printer.{Carries};
+ghost use Rattle.printer.specs.Printer.{Carries, CarriesAlone};
 
 use crate::Printer;
 use crate::ordering::order;
@@ -21,8 +21,7 @@ impl Printer {
     }
 
     fn obey(&mut self, command: Command, owed: &mut Owed) -> Result<(), Refusal>
-        requires { owed_acts owed.old ≡ [] }
-        ensures { Carries (command_of command) self.old result (owed_acts owed.new) self.new }
+        ensures { CarriesAlone (command_of command) self.old owed.old result owed.new self.new }
     {
         match command {
             Command::Idle => {}
@@ -39,22 +38,22 @@ impl Printer {
             Command::AttributesOff => self.attributes_off(),
             Command::SetEmphasised(on) => self.set_emphasised(on),
             Command::SetOneLineWidth(on) => self.set_one_line_width(on),
-            Command::SetExpanded(n) => return self.set_expanded(n),
-            Command::SetDoubleHeight(n) => return self.set_double_height(n),
-            Command::SetUnderline(n) => return self.set_underline(n),
-            Command::SetItalic(n) => return self.set_italic(n),
+            Command::SetExpanded(n) => self.switch_attribute(n, |a, on| a.wide = on)?,
+            Command::SetDoubleHeight(n) => self.switch_attribute(n, |a, on| a.tall = on)?,
+            Command::SetUnderline(n) => self.switch_attribute(n, |a, on| a.underlined = on)?,
+            Command::SetItalic(n) => self.switch_attribute(n, |a, on| a.italic = on)?,
             Command::SetPrintMode(n) => self.set_print_mode(n),
             Command::SetSpacing(n) => self.set_spacing(n),
             Command::FeedSteps(n) => self.feed_steps(n, owed),
-            Command::Repeat(what, n) => return self.repeat(what, n, owed),
-            Command::SetPageLength(n) => return self.set_page_length(n),
-            Command::SetVerticalStops(stops) => return self.set_vertical_stops(stops),
-            Command::SetHorizontalStops(stops) => return self.set_horizontal_stops(stops),
-            Command::SetLeftMargin(n) => return self.set_left_margin(n),
-            Command::SetRightMargin(n) => return self.set_right_margin(n),
+            Command::Repeat(what, n) => self.repeat(what, n, owed)?,
+            Command::SetPageLength(n) => self.set_page_length(n)?,
+            Command::SetVerticalStops(stops) => self.set_vertical_stops(stops)?,
+            Command::SetHorizontalStops(stops) => self.set_horizontal_stops(stops)?,
+            Command::SetLeftMargin(n) => self.set_left_margin(n)?,
+            Command::SetRightMargin(n) => self.set_right_margin(n)?,
             Command::Cut => self.cut(owed),
-            Command::BarCode(parameters, string) => return self.bar_code(parameters, string, owed),
-            Command::Configure(replies, body) => return self.configure(replies, body, owed),
+            Command::BarCode(parameters, string) => self.bar_code(parameters, string, owed)?,
+            Command::Configure(replies, body) => self.configure(replies, body, owed)?,
             Command::Reset => self.reset(),
         }
         Ok(())

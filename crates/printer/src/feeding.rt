@@ -6,7 +6,7 @@ ghost use Rattle.job.specs.Effects.{times};
 ghost use Rattle.job.specs.Lines.{close_and_feed, feed_line, put};
 ghost use Rattle.action.specs.Meanings.{other_acts, row_acts};
 ghost use Rattle.action.specs.Owed.{owed_acts};
-ghost use Rattle.printer.specs.Printer.{Carries, Does, printer_of};
+ghost use Rattle.printer.specs.Printer.{CarriesAlone, Does, DoesAlone, printer_of};
 ghost use Rattle.printer.specs.Spaces.{SpacePut, space};
 
 use crate::Printer;
@@ -19,15 +19,12 @@ use reading::Refusal;
 impl Printer {
     /// Puts a character; a line feed comes first if it would pass the right margin.
     pub(crate) fn print(&mut self, byte: TextByte, owed: &mut Owed)
-        requires { owed_acts owed.old ≡ [] }
-        ensures { Does (put true byte.code) self.old owed.new self.new }
+        ensures { DoesAlone (put true byte.code) self.old owed.old owed.new self.new }
     {
-        if self.next_fits(true) {
-            self.put_character(byte, true);
-        } else {
+        if !self.next_fits(true) {
             self.line_feed(owed);
-            self.put_character(byte, true);
         }
+        self.put_character(byte, true);
     }
 
     /// LF: closes the row, advances by the spacing and counts the line.
@@ -52,9 +49,9 @@ impl Printer {
     }
 
     /// So many line feeds: the row is closed once, and equal advances follow.
+    #[tactic(auto, using(crate::proofs::Feeds::feeds_close))]
     fn line_feeds(&mut self, count: u8, owed: &mut Owed)
-        requires { owed_acts owed.old ≡ [] }
-        ensures { Does (times count feed_line) self.old owed.new self.new }
+        ensures { DoesAlone (times count feed_line) self.old owed.old owed.new self.new }
     {
         if count > 0 {
             self.close_and_feed(count, None, owed);
@@ -63,8 +60,7 @@ impl Printer {
 
     /// VT: line feeds to the next vertical stop within the page, or one.
     pub(crate) fn vertical_tab(&mut self, owed: &mut Owed)
-        requires { owed_acts owed.old ≡ [] }
-        ensures { Does (effect vertical_tab) self.old owed.new self.new }
+        ensures { DoesAlone (effect vertical_tab) self.old owed.old owed.new self.new }
     {
         let count = self.settings.lines_to_stop();
         self.line_feeds(count, owed);
@@ -72,8 +68,7 @@ impl Printer {
 
     /// FF: line feeds to the top of the next page.
     pub(crate) fn form_feed(&mut self, owed: &mut Owed)
-        requires { owed_acts owed.old ≡ [] }
-        ensures { Does (effect form_feed) self.old owed.new self.new }
+        ensures { DoesAlone (effect form_feed) self.old owed.old owed.new self.new }
     {
         let count = self.settings.lines_to_page();
         self.line_feeds(count, owed);
@@ -89,8 +84,7 @@ impl Printer {
 
     /// Up to 127 spaces that are not underlined, or line feeds.
     pub(crate) fn repeat(&mut self, what: u8, n: u8, owed: &mut Owed) -> Result<(), Refusal>
-        requires { owed_acts owed.old ≡ [] }
-        ensures { Carries (repeat what n) self.old result (owed_acts owed.new) self.new }
+        ensures { CarriesAlone (repeat what n) self.old owed.old result owed.new self.new }
     {
         match (what, n) {
             (0, 0..=127) => {

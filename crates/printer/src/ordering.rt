@@ -7,7 +7,7 @@ ghost use Rattle.action.specs.Meanings.{cut_act, other_act};
 ghost use Rattle.action.specs.Owed.{owed_acts};
 ghost use Rattle.reader.specs.Commands.{parameters_of};
 ghost use Rattle.short.specs.Short.{listed};
-ghost use Rattle.printer.specs.Printer.{Carries, Does};
+ghost use Rattle.printer.specs.Printer.{CarriesAlone, DoesAlone};
 
 use crate::Printer;
 use action::actions::{Cut, Other};
@@ -21,16 +21,16 @@ use short::Short;
 impl Printer {
     /// With the cutter on: closes the row, makes the line feeds before a cut and orders the cut.
     pub(crate) fn cut(&mut self, owed: &mut Owed)
-        requires { owed_acts owed.old ≡ [] }
-        ensures { Does (effect cut) self.old owed.new self.new }
+        ensures { DoesAlone (effect cut) self.old owed.old owed.new self.new }
     {
         let cutter = self.settings.cutter();
         if cutter.on {
-            self.close_and_feed(
-                cutter.lines,
-                Some(Other::Cut(kind_of_cut(cutter.partial))),
-                owed,
-            );
+            let cut = if cutter.partial {
+                Cut::Partial
+            } else {
+                Cut::Total
+            };
+            self.close_and_feed(cutter.lines, Some(Other::Cut(cut)), owed);
         }
     }
 
@@ -41,12 +41,9 @@ impl Printer {
         string: Short<25>,
         owed: &mut Owed,
     ) -> Result<(), Refusal>
-        requires { owed_acts owed.old ≡ [] }
-        ensures { Carries (bar_code (parameters_of parameters) (listed string)) self.old result (owed_acts owed.new) self.new }
+        ensures { CarriesAlone (bar_code (parameters_of parameters) (listed string)) self.old owed.old result owed.new self.new }
     {
-        let Some(size) = BarSize::new(parameters.width, parameters.height) else {
-            return Err(Refusal::OutOfRange);
-        };
+        let size = BarSize::new(parameters.width, parameters.height).ok_or(Refusal::OutOfRange)?;
         let kind = BarKind::from_number(parameters.kind);
         match Bars::new(kind, size, parameters.shown == 1, string.as_slice()) {
             Ok(bars) => {
@@ -65,12 +62,9 @@ impl Printer {
         body: [u8; 40],
         owed: &mut Owed,
     ) -> Result<(), Refusal>
-        requires { owed_acts owed.old ≡ [] }
-        ensures { Carries (configure replies body) self.old result (owed_acts owed.new) self.new }
+        ensures { CarriesAlone (configure replies body) self.old owed.old result owed.new self.new }
     {
-        if !self.settings.configure(&body) {
-            return Err(Refusal::OutOfRange);
-        }
+        self.settings.configure(&body)?;
         self.empty_row();
         if replies {
             order(Other::Reply(Reply::Configuration), owed);
@@ -84,10 +78,4 @@ pub(crate) fn order(other: Other, owed: &mut Owed)
     ensures { owed_acts owed.new ≡ other_act other ∷ [] }
 {
     owed.set(None, 0, 0, Some(other));
-}
-
-fn kind_of_cut(partial: bool) -> Cut
-    ensures { cut_act result ≡ (if partial then partial_cut else total_cut) }
-{
-    if partial { Cut::Partial } else { Cut::Total }
 }

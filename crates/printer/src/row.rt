@@ -53,9 +53,11 @@ impl Printer {
         ensures { printer_of self.new ≡ tabbed (printer_of self.old) }
     {
         let position = self.row.len() + 1;
-        let column = self.settings.stop_beyond(position);
-        if (position as u16) < column && column <= self.settings.margins().right as u16 {
-            let _ = self.row.skip(column as u8 - position);
+        match self.settings.stop_beyond(position) {
+            Some(column) if column <= u16::from(self.settings.margins().right) => {
+                let _ = self.row.skip(column as u8 - position);
+            }
+            _ => {}
         }
     }
 

@@ -1,12 +1,12 @@
 //! Commands that change a setting.
-ghost use Rattle.std.specs.Prelude.{◌≡◌, ◌<◌, true, false, cond, [], Ok, Err, MatchResult, ◌==◌, nat_le};
+ghost use Rattle.std.specs.Prelude.{◌≡◌, ◌<◌, true, false, [], MatchResult, ◌==◌, nat_le};
 ghost use Rattle.reading.specs.declared.Refusal.TheVariants.{OutOfRange};
-ghost use Rattle.reading.specs.Commands.{set_double_height, set_expanded, set_horizontal_stops, set_italic, set_left_margin, set_page_length, set_right_margin, set_underline, set_vertical_stops};
+ghost use Rattle.reading.specs.Commands.{set_horizontal_stops, set_left_margin, set_page_length, set_right_margin, set_vertical_stops};
 ghost use Rattle.job.specs.Actions.{plain};
 ghost use Rattle.job.specs.Changes.{bit, emphasise, print_mode, space_lines};
 ghost use Rattle.job.specs.Printer.{change, change_attributes, change_paper, reset_printer, with_attributes, with_one_line_width};
 ghost use Rattle.short.specs.Short.{listed};
-ghost use Rattle.printer.specs.Printer.{Carries, printer_of};
+ghost use Rattle.printer.specs.Printer.{Carries, Switches, printer_of};
 
 use crate::Printer;
 use job::cells::Attributes;
@@ -18,13 +18,7 @@ impl Printer {
     pub(crate) fn attributes_off(&mut self)
         ensures { printer_of self.new ≡ change (λ s. with_one_line_width false (with_attributes plain s)) (printer_of self.old) }
     {
-        self.settings.set_attributes(Attributes {
-            emphasised: false,
-            tall: false,
-            wide: false,
-            underlined: false,
-            italic: false,
-        });
+        self.settings.set_attributes(Attributes::PLAIN);
         self.settings.set_one_line_width(false);
     }
 
@@ -43,47 +37,19 @@ impl Printer {
         self.settings.set_one_line_width(on);
     }
 
-    pub(crate) fn set_expanded(&mut self, n: u8) -> Result<(), Refusal>
-        ensures { Carries (set_expanded n) self.old result [] self.new }
+    /// Switches an attribute off or on by a parameter of 0 or 1.
+    pub(crate) fn switch_attribute<F: FnOnce(&mut Attributes, bool)>(
+        &mut self,
+        n: u8,
+        set: F,
+    ) -> Result<(), Refusal>
+        requires { F.IsAlwaysCallable set }
+        ensures { Switches (λ p on q. F.post set p on tt q) n self.old result self.new }
     {
         let on = switch(n)?;
-        self.settings.set_attributes(Attributes {
-            wide: on,
-            ..self.settings.attributes()
-        });
-        Ok(())
-    }
-
-    pub(crate) fn set_double_height(&mut self, n: u8) -> Result<(), Refusal>
-        ensures { Carries (set_double_height n) self.old result [] self.new }
-    {
-        let on = switch(n)?;
-        self.settings.set_attributes(Attributes {
-            tall: on,
-            ..self.settings.attributes()
-        });
-        Ok(())
-    }
-
-    pub(crate) fn set_underline(&mut self, n: u8) -> Result<(), Refusal>
-        ensures { Carries (set_underline n) self.old result [] self.new }
-    {
-        let on = switch(n)?;
-        self.settings.set_attributes(Attributes {
-            underlined: on,
-            ..self.settings.attributes()
-        });
-        Ok(())
-    }
-
-    pub(crate) fn set_italic(&mut self, n: u8) -> Result<(), Refusal>
-        ensures { Carries (set_italic n) self.old result [] self.new }
-    {
-        let on = switch(n)?;
-        self.settings.set_attributes(Attributes {
-            italic: on,
-            ..self.settings.attributes()
-        });
+        let mut attributes = self.settings.attributes();
+        set(&mut attributes, on);
+        self.settings.set_attributes(attributes);
         Ok(())
     }
 
@@ -109,19 +75,19 @@ impl Printer {
     pub(crate) fn set_page_length(&mut self, n: u8) -> Result<(), Refusal>
         ensures { Carries (set_page_length n) self.old result [] self.new }
     {
-        accepted(self.settings.set_page_length(n))
+        self.settings.set_page_length(n)
     }
 
     pub(crate) fn set_vertical_stops(&mut self, stops: Short<16>) -> Result<(), Refusal>
         ensures { Carries (set_vertical_stops (listed stops)) self.old result [] self.new }
     {
-        accepted(self.settings.set_vertical_stops(stops))
+        self.settings.set_vertical_stops(stops)
     }
 
     pub(crate) fn set_horizontal_stops(&mut self, stops: Short<8>) -> Result<(), Refusal>
         ensures { Carries (set_horizontal_stops (listed stops)) self.old result [] self.new }
     {
-        accepted(self.settings.set_horizontal_stops(stops))
+        self.settings.set_horizontal_stops(stops)
     }
 
     /// A new left margin moves the position only if no column is set and the position was the old left margin.
@@ -129,17 +95,17 @@ impl Printer {
         ensures { Carries (set_left_margin n) self.old result [] self.new }
     {
         let at_margin = self.row.is_unset() && self.row.len() + 1 == self.settings.margins().left;
-        let fits = self.settings.set_left_margin(n);
-        if fits && at_margin {
+        self.settings.set_left_margin(n)?;
+        if at_margin {
             self.row.clear(n - 1);
         }
-        accepted(fits)
+        Ok(())
     }
 
     pub(crate) fn set_right_margin(&mut self, n: u8) -> Result<(), Refusal>
         ensures { Carries (set_right_margin n) self.old result [] self.new }
     {
-        accepted(self.settings.set_right_margin(n))
+        self.settings.set_right_margin(n)
     }
 
     /// Cancels the row and resets all but spacing, page, line number and cutter.
@@ -159,17 +125,6 @@ fn switch(n: u8) -> Result<bool, Refusal>
         0 => Ok(false),
         1 => Ok(true),
         _ => Err(Refusal::OutOfRange),
-    }
-}
-
-/// A command is carried out if it is in range.
-pub(crate) fn accepted(in_range: bool) -> Result<(), Refusal>
-    ensures { result ≡ cond in_range (Ok tt) (Err OutOfRange) }
-{
-    if in_range {
-        Ok(())
-    } else {
-        Err(Refusal::OutOfRange)
     }
 }
 
