@@ -2,29 +2,15 @@
 #![tactic(auto)]
 
 ghost use Rattle.std.specs.Prelude.{◌≡◌, ◌<◌, ◌++◌, Some, MatchResult};
-ghost use Rattle.hexadecimal.specs.Digits.{byte_value, digit_of, digit_value, decoded, encoded, EncodesBack, Undecoded};
+ghost use Rattle.hexadecimal.specs.Digits.{byte_value, digit_of, digit_value, decoded, encoded, two_digits, EncodesBack, Undecoded};
 ghost use Rattle.hexadecimal.specs.declared.fault.HexFault.TheVariants.{OutOfMemory};
 
 mod fault;
 
 pub use fault::HexFault;
 use std::alloc::{AllocError, AllocFailed, Global};
-use std::error::Error;
-use std::fmt;
 
-impl fmt::Display for HexFault {
-    fn fmt<W: fmt::Write>(&self, f: &mut fmt::Formatter<W>) -> fmt::Result {
-        match self {
-            HexFault::NotHexadecimal => f.write_str(
-                "this is not hexadecimal: two digits 0 to 9 or A to F for each byte",
-            ),
-            HexFault::OutOfMemory => f.write_str("there is no memory for the bytes"),
-        }
-    }
-}
-
-impl Error for HexFault {}
-
+// By hand: a derived From has no contract, and the clause of decode names the fault.
 impl<T: Drop> From<AllocFailed<T>> for HexFault {
     ghost from_gives = { λ _ r. r ≡ OutOfMemory };
 
@@ -33,6 +19,7 @@ impl<T: Drop> From<AllocFailed<T>> for HexFault {
     }
 }
 
+/// The value of a digit. The standard parsers read a to f too, which are no digits here.
 fn digit(c: u8) -> Option<u8>
     ensures { result ≡ digit_value c }
 {
@@ -58,11 +45,9 @@ pub fn decode(heap: Global, text: &[u8]) -> Result<Vec<u8>, HexFault>
 {
     let mut bytes = Vec::new(heap);
     let mut rest = text;
+    // Chunks of two would be no plainer: an odd digit at the end has to be told from none, as the rest does.
     while let [a, b, tail @ ..] = rest {
-        let Some(value) = byte(*a, *b) else {
-            return Err(HexFault::NotHexadecimal);
-        };
-        bytes.push(value)?;
+        bytes.push(byte(*a, *b).ok_or(HexFault::NotHexadecimal)?)?;
         rest = tail;
     }
     if rest.is_empty() {
@@ -84,19 +69,25 @@ fn to_digit(value: u8) -> u8
     }
 }
 
+/// The two digits of a byte.
+pub fn two_digits(byte: u8) -> [u8; 2]
+    ensures { result ≡ two_digits byte }
+{
+    [to_digit(byte / 16), to_digit(byte % 16)]
+}
+
 /// Adds bytes to a text, in hexadecimal.
 pub fn encode(text: &mut Vec<u8>, bytes: &[u8]) -> Result<(), AllocError>
     ensures { MatchResult result (λ _. text.new.items ≡ text.old.items ++ encoded bytes.now) (λ _. Unit) }
 {
     for byte in bytes {
-        text.extend_from_slice(&[to_digit(byte / 16), to_digit(byte % 16)])?;
+        text.extend_from_slice(&two_digits(*byte))?;
     }
     Ok(())
 }
 
 /// What is encoded is decoded again.
-pub fn hexadecimal_is_read_back() -> u8
+#[tactic(auto, using(crate::proofs::Encoded::encodes_back))]
+pub fn hexadecimal_is_read_back()
     ensures { EncodesBack }
-{
-    0
-}
+{}
