@@ -1,31 +1,11 @@
 -- One line more of a listing.
-use Rattle.std.proofs.Common.{◌≡◌, ℕ, ◌+◌, Bool, true, false, cond, ltb, List, [], ◌++◌, length, take, drop, Some, None, Ok, Err, Option, Result, sym, refl, ap, ◌∙◌, subst, append_assoc, arith}
-use Rattle.std.specs.Option.{option_map}
-use Rattle.std.proofs.lemmas.List.{take_at, append-nil}
+use Rattle.std.proofs.Common.{◌≡◌, ℕ, ◌+◌, false, List, [], ◌++◌, length, Some, None, Option, sym, refl, ap, ◌∙◌, subst, append_assoc}
+use Rattle.std.proofs.lemmas.List.{append-nil}
 use Rattle.stream.specs.Answers.{too_long}
-use Rattle.stream.specs.Lines.{line_of, too_short, with_line, line_answer, line_left}
+use Rattle.stream.specs.Lines.{line_of}
 use Rattle.stream.specs.Parts.{Part, part_at}
 use Rattle.stream.proofs.Whole.{some_same, no_part}
 use Rattle.listing.specs.Listed.{Listed, ended, one_line, Listing, line_at}
-
--- what line wrote is the line of the part there
-pub written : (s : List ℕ) (place n : ℕ) (out after : List ℕ) → length out ≡ 134
-    → ◌≡◌ {A = Result (Option ℕ) ℕ} (Ok (Some n)) (line_answer s place out) → after ≡ line_left s place out
-    → (too_long s ≡ false) × (take n after ≡ line_at s place)
-written s place n out after h e k = go (too_long s) (too_short out) (part_at s place) refl (ap (λ (m : ℕ). ltb m 134) h) refl e k
-  where
-    go : (t u : Bool) (o : Option Part) → too_long s ≡ t → u ≡ false → part_at s place ≡ o
-        → ◌≡◌ {A = Result (Option ℕ) ℕ} (Ok (Some n)) (cond t (Err 6) (cond u (Err 5) (Ok (option_map (λ p. length (line_of place p)) o))))
-        → after ≡ cond t out (cond u out (with_line place o out)) → (too_long s ≡ false) × (take n after ≡ line_at s place)
-    go true u o a b d e k = let z : ◌≡◌ {A = ℕ} 0 1 = cc in absurd (omega arith)
-    go false true o a b d e k = let z : ◌≡◌ {A = ℕ} 0 1 = cc in absurd (omega arith)
-    go false false None a b d e k = let z : ◌≡◌ {A = ℕ} 0 1 = cc in absurd (omega arith)
-    go false false (Some p) a b d e k =
-        let long : n ≡ length (line_of place p) = cc in (
-          a,
-          ap (take n) k ∙ take_at (line_of place p) (drop (length (line_of place p)) out) n (sym long)
-              ∙ ap (λ (o : Option Part). elim o [ Some p ↦ line_of place p | None ↦ [] ]) (sym d),
-        )
 
 -- the part there, and its line
 pub added : (s : List ℕ) (place : ℕ) (p : Part) (old new : List ℕ) → part_at s place ≡ Some p → new ≡ old ++ line_at s place

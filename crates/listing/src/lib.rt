@@ -11,26 +11,9 @@ mod fault;
 
 pub use fault::ListingFault;
 use std::alloc::{AllocError, Global};
-use std::error::Error;
-use std::fmt;
 use stream::{LINE_MAX, LineFault, TokenFault, line, token};
 
-impl fmt::Display for ListingFault {
-    fn fmt<W: fmt::Write>(&self, f: &mut fmt::Formatter<W>) -> fmt::Result {
-        match self {
-            ListingFault::Line(LineFault::Token(TokenFault::StreamTooLong)) => f.write_str(
-                "refusal 6: the stream has more than 65536 bytes",
-            ),
-            ListingFault::Line(LineFault::BufferTooShort) => f.write_str(
-                "refusal 5: the line's buffer has fewer than 134 bytes",
-            ),
-            ListingFault::OutOfMemory => f.write_str("there is no memory for the listing"),
-        }
-    }
-}
-
-impl Error for ListingFault {}
-
+// By hand, as the two below: a derived From has no contract, and the clauses name the fault.
 impl From<LineFault> for ListingFault {
     ghost from_gives = { λ fault r. r ≡ Line fault };
 
@@ -72,6 +55,7 @@ pub fn listing(heap: Global, stream: &[u8]) -> Result<Vec<u8>, ListingFault>
 {
     let mut text = Vec::new(heap);
     let mut place = 0;
+    // No iterator: a part is given by its place, and its line needs the place too.
     while let Some(part) = token(stream, place)? {
         add_line(&mut text, stream, place)?;
         place += part.bytes().len();

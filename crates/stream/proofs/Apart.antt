@@ -6,8 +6,8 @@ use Rattle.reading.specs.Tests.{find}
 use Rattle.reading.specs.Reading.{Reading, text, Meaning, more, done, refused, complete, unknown, is_text, single_bytes, meaning, next_reading, reading_after}
 use Rattle.reading.specs.Unfinished.{begun}
 use Rattle.reading.proofs.Within.{Within, Moves, moves}
-use Rattle.stream.specs.declared.parts.Kind.TheVariants.{Text}
-use Rattle.stream.specs.declared.parts.Extent.{Extent}
+use Rattle.stream.specs.Kind.{Text}
+use Rattle.stream.specs.Kind.{Extent}
 use Rattle.stream.specs.Parts.{extent, read_on, part}
 use Rattle.stream.specs.Laws.{Leaves}
 use Rattle.stream.proofs.Agree.{by_meaning}

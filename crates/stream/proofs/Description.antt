@@ -9,8 +9,8 @@ use Rattle.reading.specs.Tests.{find}
 use Rattle.reading.specs.Commands.{Command as Order, print}
 use Rattle.reading.specs.Reading.{Reading, text, escape, group, parameter, repeat_what, repeat_count, bar_parameters, bar_string, vertical_list, horizontal_list, body, Meaning, more, done, refused, complete, unknown, is_text, single_bytes, escape_codes, group_codes, meaning}
 use Rattle.reading.proofs.Within.{Within, Moves, moves}
-use Rattle.stream.specs.declared.parts.Kind.TheVariants.{Text, Control, Command, Refused, Unfinished}
-use Rattle.stream.specs.declared.parts.Extent.{Extent}
+use Rattle.stream.specs.Kind.{Text, Control, Command, Refused, Unfinished}
+use Rattle.stream.specs.Kind.{Extent}
 use Rattle.stream.specs.Parts.{extent, read_on, first, Part, a_part, part}
 use Rattle.stream.specs.Awaited.{awaited, follow}
 use Rattle.stream.specs.Described.{TextEnds, Described, text_run, control, unknown_byte, no_code, pair, unknown_pair, whole, overlong, cut_short}

@@ -3,16 +3,15 @@ use Rattle.std.proofs.Common.{◌≡◌, ℕ, ◌+◌, ◌-◌, ◌<◌, ◌≤�
 use Rattle.std.specs.List.{AllByRecursion}
 use Rattle.std.proofs.lemmas.List.{length-replicate, nil_from_length, append-nil}
 use Rattle.std.proofs.lemmas.Bool.{leb-true, leb-false, eqb-true, eqb-false}
-use Rattle.stream.specs.declared.parts.Kind.{Kind}
-use Rattle.stream.specs.declared.parts.Kind.TheVariants as kind
-use Rattle.stream.specs.declared.parts.Extent.{Extent}
+use Rattle.stream.specs.Kind.{Kind}
+use Rattle.stream.specs.Kind as kind
+use Rattle.stream.specs.Kind.{Extent}
 use Rattle.stream.specs.declared.parts.Awaited.{Awaited}
 use Rattle.stream.specs.declared.parts.Awaited.TheVariants.{Text, EscapeCode, GroupCode, Bytes, List as ListOf}
-use Rattle.stream.specs.declared.parts.Progress.TheVariants.{More, Complete, Refused}
 use Rattle.stream.specs.Parts.{extent}
 use Rattle.stream.specs.Awaited.{follow}
 use Rattle.stream.specs.Described.{WholeList, OverlongList, Completes, Passes, Begins}
-use Rattle.stream.proofs.Agree.{by_progress, last_byte, byte_of_more, before_list, list_byte, list_past}
+use Rattle.stream.proofs.Agree.{going_on, over, too_many, by_progress, last_byte, byte_of_more, before_list, list_byte, list_past}
 
 -- what is awaited behind a code: at most 40 bytes
 abbrev pub Fits : Awaited → Type 0
@@ -41,7 +40,7 @@ bytes_followed [] n k h =
 bytes_followed (b ∷ bs) n k h = go (leb k 1) refl (λ l. bytes_followed bs (n + 1) (k - 1) (omega arith))
   where
     go : (t : Bool) → leb k 1 ≡ t → (1 < k → Followed (Bytes (k - 1)) (n + 1) bs (follow (n + 1) (Bytes (k - 1)) bs))
-        → Followed (Bytes k) n (b ∷ bs) (by_progress n bs (cond t Complete (More (Bytes (k - 1)))))
+        → Followed (Bytes k) n (b ∷ bs) (by_progress n bs (cond t over (going_on (Bytes (k - 1)))))
     go true e f = completed (b ∷ []) bs (omega arith) refl (omega (arith, leb-true k 1 e))
     go false e f =
         grow (Bytes k) (Bytes (k - 1)) b (λ l m. omega (arith, leb-false k 1 e)) (λ l m. absurd m) n bs (follow (n + 1) (Bytes (k - 1)) bs) (f (leb-false k 1 e))
@@ -92,7 +91,7 @@ list_followed (b ∷ bs) n before most = go (eqb before 0) (eqb b 0) (eqb most 0
         → Followed (ListOf (before - 1) most) (n + 1) bs (follow (n + 1) (ListOf (before - 1) most) bs)
         → Followed (ListOf 0 (most - 1)) (n + 1) bs (follow (n + 1) (ListOf 0 (most - 1)) bs)
         → Followed (ListOf before most) n (b ∷ bs)
-        (by_progress n bs (cond t (cond z Complete (cond u Refused (More (ListOf 0 (most - 1))))) (More (ListOf (before - 1) most))))
+        (by_progress n bs (cond t (cond z over (cond u too_many (going_on (ListOf 0 (most - 1))))) (going_on (ListOf (before - 1) most))))
     go true true u e k m f g =
         completed (b ∷ []) bs (omega arith) refl
         (record { parameters = []; list = []; joins = ap (λ (x : ℕ). x ∷ []) (eqb-true b 0 k); counted = sym (eqb-true before 0 e); nonzero = tt; short = omega arith })

@@ -5,7 +5,7 @@ use Rattle.std.proofs.lemmas.List.{length-take-le, length-drop, take-append-drop
 use Rattle.std.proofs.lemmas.List.Sums.{prefix_len-le-length}
 use Rattle.std.proofs.lemmas.Bool.{leb-true, leb-false, le-leb, lt-leb, cond-true, cond-false}
 use Rattle.reading.specs.Reading.{Meaning, more, done, refused, text, meaning, is_text, reading_after}
-use Rattle.stream.specs.declared.parts.Kind.TheVariants.{Text, Unfinished}
+use Rattle.stream.specs.Kind.{Text, Unfinished}
 use Rattle.stream.specs.Awaited.{awaited}
 use Rattle.stream.specs.Parts.{extent, first, Part, part, part_at, Parts, none, next}
 use Rattle.stream.specs.Described.{Described, text_run, control, unknown_byte, no_code, pair, unknown_pair, whole, overlong, cut_short}

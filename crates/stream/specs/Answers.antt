@@ -1,7 +1,7 @@
 -- What token answers.
 use Rattle.std.specs.Prelude.{ℕ, ◌+◌, ◌≤◌, Bool, cond, List, length, IfSome, IfOk, Ok, Err, Option, Result, nat_lt}
 use Rattle.std.specs.Option.{option_map}
-use Rattle.stream.specs.declared.parts.Kind.TheVariants as kind
+use Rattle.stream.specs.Kind as kind
 use Rattle.stream.specs.declared.parts.Token.{Token}
 use Rattle.stream.specs.declared.parts.Token.TheVariants.{Text, Control, Command, Refused, Unfinished}
 use Rattle.stream.specs.declared.parts.TokenFault.{TokenFault}

@@ -4,7 +4,7 @@ use Rattle.std.specs.List.{AllByRecursion}
 use Rattle.reading.specs.Commands.{Command as Order}
 use Rattle.reading.specs.Reading.{Reading, text, more, done, refused, meaning, is_text}
 use Rattle.reading.specs.declared.Refusal.{Refusal}
-use Rattle.stream.specs.declared.parts.Kind.TheVariants.{Text, Control, Command, Refused, Unfinished}
+use Rattle.stream.specs.Kind.{Text, Control, Command, Refused, Unfinished}
 use Rattle.stream.specs.declared.parts.Awaited.{Awaited}
 use Rattle.stream.specs.declared.parts.Awaited.TheVariants as awaits
 use Rattle.stream.specs.Awaited.{awaited}

@@ -2,8 +2,8 @@
 use Rattle.std.specs.Prelude.{◌≡◌, ℕ, ◌≤◌, ◌≢◌, ◌↔◌, List, [], ◌∷◌, length, drop, Some}
 use Rattle.std.specs.List.{flat_map, AllByRecursion}
 use Rattle.reading.specs.Reading.{Reading, text, reading_after}
-use Rattle.stream.specs.declared.parts.Kind.{Kind}
-use Rattle.stream.specs.declared.parts.Kind.TheVariants.{Text, Control, Command, Refused, Unfinished}
+use Rattle.stream.specs.Kind.{Kind}
+use Rattle.stream.specs.Kind.{Text, Control, Command, Refused, Unfinished}
 use Rattle.stream.specs.Parts.{Part, part_at, Parts}
 use Rattle.stream.specs.Described.{Described}
 

@@ -1,3 +1,4 @@
+pub mod Kind
 pub mod Parts
 pub mod Awaited
 pub mod Described

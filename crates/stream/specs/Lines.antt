@@ -1,7 +1,8 @@
 -- A part's line in a listing: its place, the letter of its kind, its bytes.
-use Rattle.std.specs.Prelude.{ℕ, ◌+◌, ◌-◌, ◌/◌, ◌%◌, ◌≤◌, Bool, cond, List, [], ◌∷◌, ◌++◌, length, take, drop, IfSome, IfOk, Some, None, Ok, Err, Option, Result, nat_lt}
+use Rattle.std.specs.Prelude.{ℕ, ◌+◌, ◌/◌, ◌%◌, ◌≤◌, Bool, cond, List, [], ◌∷◌, ◌++◌, length, drop, IfSome, IfOk, Some, None, Ok, Err, Option, Result, nat_lt}
 use Rattle.std.specs.List.{flat_map}
 use Rattle.std.specs.Option.{option_map}
+use Rattle.hexadecimal.specs.Digits.{two_digits}
 use Rattle.stream.specs.declared.parts.LineFault.{LineFault}
 use Rattle.stream.specs.declared.parts.LineFault.TheVariants.{Token, BufferTooShort}
 use Rattle.stream.specs.Answers.{token_fault_number, too_long}
@@ -16,13 +17,9 @@ line_fault_number BufferTooShort = 5
 abbrev pub decimal : ℕ → ℕ
 decimal n = 0x30 + n % 10
 
--- 0 to 9, then A to F
-abbrev pub hex_digit : ℕ → ℕ
-hex_digit n = cond (nat_lt n 10) (0x30 + n) (0x41 - 10 + n)
-
 -- a space and two hexadecimal digits
 abbrev pub hex : ℕ → List ℕ
-hex b = 0x20 ∷ hex_digit (b / 16) ∷ hex_digit (b % 16) ∷ []
+hex b = 0x20 ∷ two_digits b
 
 -- the place in five digits, a space and the letter
 abbrev pub head : ℕ → ℕ → List ℕ
@@ -61,7 +58,3 @@ line_left s place out = cond (too_long s) out (cond (too_short out) out (with_li
 -- a line has at most 134 bytes
 abbrev pub FitsALine : Result (Option ℕ) LineFault → Type 0
 FitsALine r = IfOk r (λ written. IfSome written (λ n. n ≤ 134))
-
--- a text that stands at a place in a buffer, the rest as it was
-abbrev pub placed : ℕ → List ℕ → List ℕ → List ℕ
-placed at text out = take at out ++ (text ++ drop (at + length text) out)

@@ -2,9 +2,9 @@
 use Rattle.std.specs.Prelude.{◌≡◌, ℕ, ◌+◌, min, cond, List, [], ◌∷◌, length, take, drop, Some, None, Option, nat_le}
 use Rattle.std.specs.List.{prefix_len}
 use Rattle.reading.specs.Reading.{Reading, text, more, done, refused, meaning, is_text}
-use Rattle.stream.specs.declared.parts.Kind.{Kind}
-use Rattle.stream.specs.declared.parts.Kind.TheVariants.{Text, Control, Command, Refused, Unfinished}
-use Rattle.stream.specs.declared.parts.Extent.{Extent}
+use Rattle.stream.specs.Kind.{Kind}
+use Rattle.stream.specs.Kind.{Text, Control, Command, Refused, Unfinished}
+use Rattle.stream.specs.Kind.{Extent}
 
 -- the letter of a kind in a listing: T, C, E, X, U
 abbrev pub letter : Kind → ℕ
@@ -40,9 +40,13 @@ pub record Part : Type 0 where
 abbrev pub a_part : Kind → List ℕ → Part
 a_part k bs = record { kind = k; bytes = bs }
 
+-- so many of the bytes, of that kind
+abbrev pub cut : Extent → List ℕ → Part
+cut e s = a_part e.kind (take e.count s)
+
 -- the part that the bytes begin with
 abbrev pub part : List ℕ → Part
-part s = a_part (first s).kind (take (first s).count s)
+part s = cut (first s) s
 
 -- the next part from a place; nothing from the end on
 abbrev pub part_at : List ℕ → ℕ → Option Part

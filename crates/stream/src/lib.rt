@@ -1,19 +1,21 @@
 //! The parts of a stream, one at a time from any place, and their lines in a listing.
 #![tactic(auto)]
 
-ghost use Rattle.std.specs.Prelude.{◌≡◌, ◌+◌, ◌*◌, ◌%◌, ◌<◌, ◌≤◌, min, length, drop};
-ghost use Rattle.std.specs.List.{flat_map, prefix_len};
+ghost use Rattle.std.specs.Prelude.{◌≡◌, ◌+◌, ◌*◌, ◌≤◌, ◌++◌, length, take, drop};
+ghost use Rattle.std.specs.List.{flat_map, take_while};
 ghost use Rattle.reading.specs.Reading.{is_text};
 ghost use Rattle.stream.specs.Answers.{part_of, token_fault_number, token_answer, token_told, too_long, Within};
 ghost use Rattle.stream.specs.Awaited.{progress, follow};
 ghost use Rattle.stream.specs.Laws.{Laws};
-ghost use Rattle.stream.specs.Lines.{hex, hex_digit, line_answer, line_left, line_fault_number, line_text, line_told, placed, too_short, FitsALine};
-ghost use Rattle.stream.specs.Parts.{letter, a_part, first};
+ghost use Rattle.stream.specs.Lines.{head, hex, line_answer, line_left, line_fault_number, line_text, line_told, too_short, FitsALine};
+ghost use Rattle.stream.specs.Parts.{cut, letter, part};
 
 mod parts;
 
-use parts::{Awaited, Extent, Kind, Progress};
+use hexadecimal::two_digits;
+use parts::Awaited;
 pub use parts::{LineFault, Token, TokenFault};
+use reading::{Refusal, is_text};
 
 /// The most bytes of a stream.
 pub const STREAM_MAX: usize = 65_536;
@@ -52,119 +54,77 @@ impl From<TokenFault> for LineFault {
     }
 }
 
-fn is_text_byte(b: u8) -> bool
-    ensures { result ≡ is_text b }
-{
-    (0x20 <= b && b <= 0x7E) || 0x80 <= b
-}
-
-/// What a byte makes of the command that is being read.
-fn take_byte(awaited: Awaited, b: u8) -> Progress
+/// What is awaited behind a byte of the command that is being read; nothing any more, if the byte completes it.
+fn take_byte(awaited: Awaited, b: u8) -> Result<Option<Awaited>, Refusal>
     ensures { result ≡ progress awaited b }
 {
     match (awaited, b) {
-        (Awaited::Text, 0x1B) => Progress::More(Awaited::EscapeCode),
-        (Awaited::Text, 0x1D) => Progress::More(Awaited::GroupCode),
+        (Awaited::Text, 0x1B) => Ok(Some(Awaited::EscapeCode)),
+        (Awaited::Text, 0x1D) => Ok(Some(Awaited::GroupCode)),
         (
             Awaited::Text,
             0x00 | 0x05 | 0x07 | 0x09..=0x0E | 0x11 | 0x13 | 0x14 | 0x18 | 0x20..=0xFF,
-        ) => Progress::Complete,
-        (Awaited::Text, _) => Progress::Refused,
-        (Awaited::EscapeCode, 0x0E | 0x14 | 0x32 | 0x40 | 0x45..=0x48 | 0x6D | 0x70 | 0xC3) =>
-            Progress::Complete,
+        ) => Ok(None),
+        (Awaited::Text, _) => Err(Refusal::UnknownCommand),
+        (Awaited::EscapeCode, 0x0E | 0x14 | 0x32 | 0x40 | 0x45..=0x48 | 0x6D | 0x70 | 0xC3) => Ok(
+            None,
+        ),
         (
             Awaited::EscapeCode,
             0x21 | 0x2D | 0x33 | 0x34 | 0x43 | 0x4A | 0x51 | 0x57 | 0x6C | 0x77,
-        ) => Progress::More(Awaited::Bytes(1)),
-        (Awaited::EscapeCode, 0x66) => Progress::More(Awaited::Bytes(2)),
-        (Awaited::EscapeCode, 0xC6 | 0xE4) => Progress::More(Awaited::Bytes(40)),
-        (Awaited::EscapeCode, 0x42) => Progress::More(Awaited::List(0, 16)),
-        (Awaited::EscapeCode, 0x44) => Progress::More(Awaited::List(0, 8)),
-        (Awaited::EscapeCode, 0x62) => Progress::More(Awaited::List(4, 25)),
-        (Awaited::EscapeCode, _) => Progress::Refused,
-        (Awaited::GroupCode, 0x05) => Progress::Complete,
-        (Awaited::GroupCode, _) => Progress::Refused,
-        (Awaited::Bytes(0 | 1), _) => Progress::Complete,
-        (Awaited::Bytes(n), _) => Progress::More(Awaited::Bytes(n - 1)),
-        (Awaited::List(0, _), 0x00) => Progress::Complete,
-        (Awaited::List(0, 0), _) => Progress::Refused,
-        (Awaited::List(0, most), _) => Progress::More(Awaited::List(0, most - 1)),
-        (Awaited::List(before, most), _) => Progress::More(Awaited::List(before - 1, most)),
+        ) => Ok(Some(Awaited::Bytes(1))),
+        (Awaited::EscapeCode, 0x66) => Ok(Some(Awaited::Bytes(2))),
+        (Awaited::EscapeCode, 0xC6 | 0xE4) => Ok(Some(Awaited::Bytes(40))),
+        (Awaited::EscapeCode, 0x42) => Ok(Some(Awaited::List(0, 16))),
+        (Awaited::EscapeCode, 0x44) => Ok(Some(Awaited::List(0, 8))),
+        (Awaited::EscapeCode, 0x62) => Ok(Some(Awaited::List(4, 25))),
+        (Awaited::EscapeCode, _) => Err(Refusal::UnknownCommand),
+        (Awaited::GroupCode, 0x05) => Ok(None),
+        (Awaited::GroupCode, _) => Err(Refusal::UnknownCommand),
+        (Awaited::Bytes(0 | 1), _) => Ok(None),
+        (Awaited::Bytes(n), _) => Ok(Some(Awaited::Bytes(n - 1))),
+        (Awaited::List(0, _), 0x00) => Ok(None),
+        (Awaited::List(0, 0), _) => Err(Refusal::TooLong),
+        (Awaited::List(0, most), _) => Ok(Some(Awaited::List(0, most - 1))),
+        (Awaited::List(before, most), _) => Ok(Some(Awaited::List(before - 1, most))),
     }
 }
 
-/// How the command ends whose first byte is read.
-fn command(start: Awaited, s: &[u8]) -> Extent
+/// The command whose first byte is read, up to the byte that ends it.
+fn command(start: Awaited, s: &[u8]) -> Token<'_>
     requires { 1 ≤ length s.now }
-    ensures { result ≡ follow 1 start (drop 1 s.now) }
+    ensures { part_of result ≡ cut (follow 1 start (drop 1 s.now)) s.now }
 {
     let mut awaited = start;
-    for i in 1..s.len() {
-        match take_byte(awaited, s[i]) {
-            Progress::More(next) => awaited = next,
-            Progress::Complete => return Extent {
-                kind: Kind::Command,
-                count: i + 1,
-            },
-            Progress::Refused => return Extent {
-                kind: Kind::Refused,
-                count: i + 1,
-            },
+    for (i, byte) in s[1..].iter().enumerate() {
+        match take_byte(awaited, *byte) {
+            Ok(Some(next)) => awaited = next,
+            Ok(None) => return Token::Command(&s[..i + 2]),
+            Err(_) => return Token::Refused(&s[..i + 2]),
         }
     }
-    Extent {
-        kind: Kind::Unfinished,
-        count: s.len(),
-    }
+    Token::Unfinished(s)
 }
 
 /// How many text bytes follow, up to 16.
 fn text_run(s: &[u8]) -> usize
-    ensures { result ≡ min 16 (prefix_len is_text s.now) }
+    ensures { result ≡ length (take 16 (take_while is_text s.now)) }
 {
-    let end = s.len().min(16);
-    for i in 0..end {
-        if !is_text_byte(s[i]) {
-            return i;
-        }
-    }
-    end
+    s.iter().take_while(|byte| is_text(**byte)).take(16).count()
 }
 
 /// The part that the bytes begin with.
-fn first_part(s: &[u8]) -> Extent
+fn first_part(s: &[u8]) -> Token<'_>
     requires { 1 ≤ length s.now }
-    ensures value { result ≡ first s.now }
-    ensures bound { result.count ≤ length s.now }
+    ensures { part_of result ≡ part s.now }
 {
-    if is_text_byte(s[0]) {
-        return Extent {
-            kind: Kind::Text,
-            count: text_run(s),
-        };
+    if is_text(s[0]) {
+        return Token::Text(&s[..text_run(s)]);
     }
     match take_byte(Awaited::Text, s[0]) {
-        Progress::More(next) => command(next, s),
-        Progress::Complete => Extent {
-            kind: Kind::Control,
-            count: 1,
-        },
-        Progress::Refused => Extent {
-            kind: Kind::Refused,
-            count: 1,
-        },
-    }
-}
-
-fn token_of(kind: Kind, bytes: &[u8]) -> Token<'_>
-    ensures { part_of result ≡ a_part kind bytes.now }
-{
-    match kind {
-        Kind::Text => Token::Text(bytes),
-        Kind::Control => Token::Control(bytes),
-        Kind::Command => Token::Command(bytes),
-        Kind::Refused => Token::Refused(bytes),
-        Kind::Unfinished => Token::Unfinished(bytes),
+        Ok(Some(next)) => command(next, s),
+        Ok(None) => Token::Control(&s[..1]),
+        Err(_) => Token::Refused(&s[..1]),
     }
 }
 
@@ -175,6 +135,7 @@ fn is_too_long(stream: &[u8]) -> bool
 }
 
 /// The next part of a stream from a place, begun as text; none from the stream's end on.
+#[tactic(auto, using(crate::proofs::Whole::laws))]
 pub fn token(stream: &[u8], place: usize) -> Result<Option<Token<'_>>, TokenFault>
     ensures answer { token_told result ≡ token_answer stream.now place }
     ensures within { Within stream.now place result }
@@ -186,9 +147,7 @@ pub fn token(stream: &[u8], place: usize) -> Result<Option<Token<'_>>, TokenFaul
     if place >= stream.len() {
         return Ok(None);
     }
-    let rest = &stream[place..];
-    let Extent { kind, count } = first_part(rest);
-    Ok(Some(token_of(kind, &rest[0..count])))
+    Ok(Some(first_part(&stream[place..])))
 }
 
 impl<'a> Token<'a> {
@@ -210,64 +169,52 @@ impl<'a> Token<'a> {
         ensures { result.now ≡ (part_of self.now).bytes }
     {
         match self {
-            Token::Text(bytes) => bytes,
-            Token::Control(bytes) => bytes,
-            Token::Command(bytes) => bytes,
-            Token::Refused(bytes) => bytes,
-            Token::Unfinished(bytes) => bytes,
+            Token::Text(bytes)
+            | Token::Control(bytes)
+            | Token::Command(bytes)
+            | Token::Refused(bytes)
+            | Token::Unfinished(bytes) => bytes,
         }
     }
 }
 
-fn put(out: &mut [u8], at: usize, bytes: &[u8])
-    requires { at + length bytes.now ≤ length out.old }
-    ensures { out.new ≡ placed at bytes.now out.old }
-{
-    out[at..at + bytes.len()].copy_from_slice(bytes);
-}
-
-fn hex_char(n: u8) -> u8
-    requires { n < 16 }
-    ensures { result ≡ hex_digit n }
-{
-    if n < 10 { b'0' + n } else { b'A' - 10 + n }
-}
-
+/// A space and two digits for each byte.
 fn put_hex(out: &mut [u8], bytes: &[u8])
-    requires { 7 + 3 * length bytes.now ≤ length out.old }
-    ensures { out.new ≡ placed 7 (flat_map hex bytes.now) out.old }
+    requires { length out.old ≡ 3 * length bytes.now }
+    ensures { out.new ≡ flat_map hex bytes.now }
 {
-    let mut at = 7;
-    for b in bytes {
-        put(out, at, &[b' ', hex_char(*b / 16), hex_char(*b % 16)]);
-        at += 3;
+    // Nothing would be known of the bytes written through chunks_exact_mut.
+    for (i, byte) in bytes.iter().enumerate() {
+        let [high, low] = two_digits(*byte);
+        out[3 * i..3 * i + 3].copy_from_slice(&[b' ', high, low]);
     }
 }
 
-fn decimal_char(n: usize) -> u8
-    ensures { result ≡ 0x30 + n % 10 }
+/// The place in five digits, a space and the letter.
+fn head(place: usize, letter: u8) -> [u8; 7]
+    ensures { result ≡ head place letter }
 {
-    b'0' + (n % 10) as u8
+    let digit = |unit: usize| b'0' + (place / unit % 10) as u8;
+    [
+        digit(10_000),
+        digit(1_000),
+        digit(100),
+        digit(10),
+        digit(1),
+        b' ',
+        letter,
+    ]
 }
 
 fn put_line(out: &mut [u8], place: usize, letter: u8, bytes: &[u8]) -> usize
     requires { 8 + 3 * length bytes.now ≤ length out.old }
     ensures len { result ≡ length (line_text place letter bytes.now) }
-    ensures after { out.new ≡ placed 0 (line_text place letter bytes.now) out.old }
+    ensures after { out.new ≡ line_text place letter bytes.now ++ drop result out.old }
 {
-    let head = [
-        decimal_char(place / 10_000),
-        decimal_char(place / 1_000),
-        decimal_char(place / 100),
-        decimal_char(place / 10),
-        decimal_char(place),
-        b' ',
-        letter,
-    ];
-    put(out, 0, &head);
-    put_hex(out, bytes);
     let end = 7 + 3 * bytes.len();
-    put(out, end, b"\n");
+    out[..7].copy_from_slice(&head(place, letter));
+    put_hex(&mut out[7..end], bytes);
+    out[end] = b'\n';
     end + 1
 }
 

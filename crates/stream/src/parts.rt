@@ -1,22 +1,5 @@
 //! What the parts of a stream are, and what is awaited while one is read.
 
-/// What a part of a stream is.
-#[derive(Clone, Copy)]
-pub enum Kind {
-    Text,
-    Control,
-    Command,
-    Refused,
-    Unfinished,
-}
-
-/// The kind of the part that some bytes begin with, and how many of them it has.
-#[derive(Clone, Copy)]
-pub struct Extent {
-    pub kind: Kind,
-    pub count: usize,
-}
-
 /// What is awaited of the command that is being read. The bytes that have come are not kept.
 #[derive(Clone, Copy)]
 pub enum Awaited {
@@ -29,14 +12,6 @@ pub enum Awaited {
     Bytes(u8),
     /// So many bytes, then at most so many that are not 00, then 00.
     List(u8, u8),
-}
-
-/// What a byte makes of the command that is being read.
-#[derive(Clone, Copy)]
-pub enum Progress {
-    More(Awaited),
-    Complete,
-    Refused,
 }
 
 /// A part of a stream, which borrows its bytes.

@@ -1,7 +1,7 @@
-use Rattle.std.proofs.Common.{◌≡◌, ◌+◌, ◌*◌, take}
+use Rattle.std.proofs.Common.{◌≡◌, ◌*◌, ◌++◌, take, drop}
 use Rattle.std.specs.List.{flat_map}
-use Rattle.stream.specs.Lines.{hex, placed}
+use Rattle.stream.specs.Lines.{hex}
 use Rattle.stream.proofs.put_hex.Given as goal
 
-abbrev pub invariant-loop-b : goal.invariant-loop-b
-invariant-loop-b l = (l.at ≡ 7 + 3 * l.b-index) × (l.out ≡ placed 7 (flat_map hex (take l.b-index l.bytes)) l.initial.out)
+abbrev pub invariant-loop-i : goal.invariant-loop-i
+invariant-loop-i l = l.out ≡ flat_map hex (take l.i l.bytes) ++ drop (3 * l.i) l.initial.out
