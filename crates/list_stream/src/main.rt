@@ -1,7 +1,7 @@
 //! Lists the stream on standard input: a line for each part, with its place, its kind and its bytes.
 #![tactic(auto)]
 
-use anyhow::anyhow;
+use anyhow::bail;
 use listing::listing;
 use std::env;
 use std::io::{Read, Write};
@@ -21,18 +21,15 @@ fn list(rt: &HostRuntime) -> anyhow::Result<()> {
     let mut stream = Vec::new(rt.alloc());
     rt.stdin().take(READ_MAX).read_to_end(&mut stream)?;
     let text = listing(rt.alloc(), &stream)?;
-    rt.stdout().write_all(&text)?;
-    Ok(())
+    Ok(rt.stdout().write_all(&text)?)
 }
 
 fn run(rt: &HostRuntime) -> anyhow::Result<()> {
+    // A parser of command lines would word the help and the refusals itself, and end with a status of its own.
     match env::args(rt)?.nth(1) {
         None => list(rt),
-        Some(word) if word.as_str() == "--help" => {
-            rt.print(USAGE)?;
-            Ok(())
-        }
-        Some(_) => Err(anyhow!("it takes no arguments; try --help")),
+        Some(word) if word.as_str() == "--help" => Ok(rt.print(USAGE)?),
+        Some(_) => bail!("it takes no arguments; try --help"),
     }
 }
 

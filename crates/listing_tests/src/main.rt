@@ -2,7 +2,7 @@
 //! A row of the table: the stream in hexadecimal, a space, its listing with | for each line's end.
 #![tactic(auto)]
 
-use anyhow::anyhow;
+use anyhow::{Context, bail};
 use hexadecimal::decode;
 use listing::{ListingFault, listing};
 use std::alloc::{AllocError, Global};
@@ -11,10 +11,10 @@ use stream::{LINE_MAX, STREAM_MAX, line, token};
 
 /// A listing as a row of the table has it.
 fn as_row(heap: Global, text: &[u8]) -> Result<Vec<u8>, AllocError> {
-    let mut row = Vec::new(heap);
-    for c in text {
-        row.push(if *c == b'\n' { b'|' } else { *c })?;
-    }
+    let mut row: Vec<u8> = text
+        .iter()
+        .map(|c| if *c == b'\n' { b'|' } else { *c })
+        .collect(heap)?;
     let _ = row.pop();
     Ok(row)
 }
@@ -32,15 +32,15 @@ fn compare_table(rt: &HostRuntime) -> anyhow::Result<u32> {
     let mut rows = 0u32;
     for row in BufReader::new(rt.alloc(), rt.stdin())?.lines(rt.alloc()) {
         let row = row?;
-        let Some((stream, expected)) = row.split_once(' ') else {
-            return Err(anyhow!("a row of the table has no space"));
-        };
+        let (stream, expected) = row
+            .split_once(' ')
+            .context("a row of the table has no space")?;
         if stream == "#" {
             continue;
         }
         if !agrees(rt.alloc(), stream, expected)? {
             rt.eprintln(stream)?;
-            return Err(anyhow!("this stream's listing differs from the table"));
+            bail!("this stream's listing differs from the table");
         }
         rows = rows.saturating_add(1);
     }
@@ -48,13 +48,7 @@ fn compare_table(rt: &HostRuntime) -> anyhow::Result<u32> {
 }
 
 fn count(text: &[u8], wanted: u8) -> usize {
-    let mut found = 0usize;
-    for c in text {
-        if *c == wanted {
-            found = found.saturating_add(1);
-        }
-    }
-    found
+    text.iter().filter(|c| **c == wanted).count()
 }
 
 /// What line answers at a place with a buffer of so many bytes, and how many of these it leaves.
