@@ -6,13 +6,11 @@ ghost use Rattle.mechanism.specs.Refusals.{Admitted, is_reply};
 use crate::fault::Fault;
 use action::actions::Action;
 
+/// Whether it answers the host.
 pub fn is_reply(action: &Action) -> bool
     ensures { result ≡ is_reply (act_of action.now) }
 {
-    match action {
-        Action::Reply(_) => true,
-        _ => false,
-    }
+    matches!(action, Action::Reply(_))
 }
 
 /// Whether an action of this need is taken at this reserve and stopped mark.

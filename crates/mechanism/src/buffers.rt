@@ -14,5 +14,5 @@ pub fn front(bytes: &[u8], count: usize) -> &[u8]
     ensures { result.now ≡ take count bytes.now }
 {
     let end = count.min(bytes.len());
-    &bytes[0..end]
+    &bytes[..end]
 }

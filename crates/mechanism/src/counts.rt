@@ -6,7 +6,7 @@ ghost use Rattle.mechanism.specs.Counts.{counted, tally};
 use action::actions::Action;
 
 /// Seven counts, modulo 2^32: the steps advanced, and how many there were of each other action.
-#[derive(Clone, Copy, PartialEq, Eq)]
+#[derive(Clone, Copy, PartialEq, Eq, Default)]
 pub struct Counts {
     pub advance: u32,
     pub rows: u32,
@@ -22,21 +22,14 @@ impl Counts {
     pub fn new() -> Counts
         ensures { tally result ≡ replicate 7 0 }
     {
-        Counts {
-            advance: 0,
-            rows: 0,
-            bars: 0,
-            cuts: 0,
-            pulses: 0,
-            beeps: 0,
-            replies: 0,
-        }
+        Counts::default()
     }
 
     /// Counts an action that was taken.
     pub fn add(&mut self, action: &Action)
         ensures { tally self.new ≡ counted (tally self.old) (act_of action.now) }
     {
+        // Each arm writes its own count: of one that is lent in an arm and written behind the match, no proof says what it becomes.
         match action {
             Action::Advance(steps) => {
                 self.advance = self.advance.wrapping_add(u32::from(steps.count()));

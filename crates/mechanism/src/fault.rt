@@ -12,6 +12,7 @@ pub enum Fault {
 
 impl Fault {
     /// The number under which the refusal is reported.
+    // A method, since a reader of `fault.number()` sees what is meant, and of `u8::from(fault)` not.
     pub fn number(self) -> u8
         ensures { result ≡ fault_number self }
     {
