@@ -1,3 +1,4 @@
 pub mod Pictures
+pub mod Formed
 pub mod Pages
 pub mod Lawful

@@ -1,0 +1,3 @@
+pub mod Forms
+pub mod Recorders
+pub mod Lawful
