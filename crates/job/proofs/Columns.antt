@@ -1,14 +1,14 @@
 -- Columns that stay laid out.
-use Rattle.std.proofs.Common.{◌≡◌, ℕ, zero, suc, ◌+◌, ◌-◌, ◌≤◌, Bool, true, false, cond, List, [], ◌∷◌, ◌++◌, map, length, get_or, take, replicate, sym, refl, ap, ◌∙◌, subst, append_assoc, arith, length-append}
+use Rattle.std.proofs.Common.{◌≡◌, ℕ, zero, suc, ◌+◌, ◌-◌, ◌≤◌, Bool, true, false, cond, ◌&&◌, List, [], ◌∷◌, ◌++◌, map, length, get_or, take, replicate, sym, refl, ap, ◌∙◌, subst, append_assoc, arith, length-append}
 use lib.ListN.{length-replicate}
 use Rattle.std.proofs.lemmas.List.{length-map, take_at, get_or_at, length_push}
-use Rattle.std.proofs.lemmas.Bool.{true≢false}
 use Rattle.reading.specs.Tests.{every}
 use Rattle.reading.specs.Reading.{is_text}
 use Rattle.job.specs.Actions.{Attributes, Cell, Blank, Character, Tail, row}
 use Rattle.job.specs.Row.{is_invisible, closed_cell, is_blank, is_tail, padded, cells_of, width_of, last_width}
 use Rattle.job.specs.Orderable.{LaidOut, none, blank, narrow, wide, Visible, Orderable}
 use Rattle.job.specs.Invariants.{TextCharacter}
+use Rattle.job.proofs.Every.{every_append}
 
 pub laid_append : {P : ℕ → Attributes → Type 0} {a b : List Cell} → LaidOut P a → LaidOut P b → LaidOut P (a ++ b)
 laid_append none k = k
@@ -57,17 +57,12 @@ laid_closed (wide {code = code} {a = s} {cells = cells} e w h) = go (is_invisibl
     go true k i = blank (blank i)
     go false k i = wide (e, k) w i
 
-not_blank_more : (a b : List Cell) → every is_blank a ≡ false → every is_blank (a ++ b) ≡ false
-not_blank_more [] b h = absurd (true≢false h)
-not_blank_more (Blank ∷ a) b h = not_blank_more a b h
-not_blank_more (Character code s ∷ a) b h = refl
-not_blank_more (Tail code s ∷ a) b h = refl
-
 pub closed_orderable : (r : List Cell) → LaidOut TextCharacter r → length r ≤ 48 → every is_blank (map closed_cell r) ≡ false → Orderable (row (padded (map closed_cell r)))
 closed_orderable r h k e = (
   laid_append (laid_closed h) (laid_blanks (48 - length (map closed_cell r))),
   simp (length-append, length-replicate, length-map) (omega arith),
-  not_blank_more (map closed_cell r) (replicate (48 - length (map closed_cell r)) Blank) e,
+  every_append is_blank (map closed_cell r) (replicate (48 - length (map closed_cell r)) Blank)
+      ∙ ap (λ (b : Bool). b && every is_blank (replicate (48 - length (map closed_cell r)) Blank)) e,
 )
 
 -- deleting

@@ -1,8 +1,8 @@
 -- Bar codes and cuts.
-use Rattle.std.proofs.Common.{◌≡◌, ℕ, ◌≤◌, Bool, true, false, cond, ◌||◌, eqb, List, [], ◌∷◌, ◌++◌, length, replicate, Some, None, Option, sym, refl, ap, ◌∙◌, subst, append-nil, arith}
+use Rattle.std.proofs.Common.{◌≡◌, ℕ, ◌≤◌, Bool, true, false, cond, ◌||◌, eqb, List, [], ◌∷◌, ◌++◌, length, replicate, Some, None, Option, Ok, Err, sym, refl, ap, ◌∙◌, subst, append-nil, arith}
 use Rattle.std.specs.List.{AllByRecursion}
 use Rattle.reading.specs.Tests.{between}
-use Rattle.job.specs.declared.bars.Verdict.TheVariants as verdicts
+use Rattle.job.specs.declared.bars.BarFault.TheVariants as fault
 use Rattle.job.specs.Actions.{Act}
 use Rattle.job.specs.Printer.{Printer, emptied}
 use Rattle.job.specs.Row.{closing}
@@ -38,15 +38,15 @@ by_verdict p n1 n2 n3 n4 s k v a b h l i j =
 
 -- the verdict by its tests
 tested : (kind : BarKind) (s : List ℕ) (x y : Bool) → right_characters kind s ≡ x → right_length kind (length s) ≡ y
-    → verdict (Some kind) s ≡ cond x (cond y verdicts.Accepted verdicts.WrongLength) verdicts.WrongCharacter
+    → verdict (Some kind) s ≡ cond x (cond y (Ok tt) (Err fault.WrongLength)) (Err fault.WrongCharacter)
 tested kind s x y e f = rw (e, f)
 
 pub bar_codes_are_judged : BarCodesAreJudged
 bar_codes_are_judged p n1 n2 n3 n4 s a b h l = record {
-  unknown_kind = λ i. by_verdict p n1 n2 n3 n4 s None verdicts.UnknownKind a b h l i refl;
-  wrong_character = λ kind i c. by_verdict p n1 n2 n3 n4 s (Some kind) verdicts.WrongCharacter a b h l i (tested kind s false (right_length kind (length s)) c refl);
-  wrong_length = λ kind i c d. by_verdict p n1 n2 n3 n4 s (Some kind) verdicts.WrongLength a b h l i (tested kind s true false c d);
-  accepted = λ kind i c d. by_verdict p n1 n2 n3 n4 s (Some kind) verdicts.Accepted a b h l i (tested kind s true true c d);
+  unknown_kind = λ i. by_verdict p n1 n2 n3 n4 s None (Err fault.UnknownKind) a b h l i refl;
+  wrong_character = λ kind i c. by_verdict p n1 n2 n3 n4 s (Some kind) (Err fault.WrongCharacter) a b h l i (tested kind s false (right_length kind (length s)) c refl);
+  wrong_length = λ kind i c d. by_verdict p n1 n2 n3 n4 s (Some kind) (Err fault.WrongLength) a b h l i (tested kind s true false c d);
+  accepted = λ kind i c d. by_verdict p n1 n2 n3 n4 s (Some kind) (Ok tt) a b h l i (tested kind s true true c d);
 }
 
 -- cuts

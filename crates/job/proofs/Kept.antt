@@ -1,5 +1,5 @@
 -- A sound interpreter stays sound, and orders what is orderable.
-use Rattle.std.proofs.Common.{◌≡◌, ℕ, zero, suc, ◌+◌, ◌-◌, ◌<◌, ◌≤◌, Bool, true, false, cond, ◌&&◌, ◌||◌, eqb, ltb, leb, List, [], ◌∷◌, ◌++◌, map, length, get_or, take, replicate, Some, None, Option, sym, refl, ap, ◌∙◌, arith, lit≤, length-append, length-take}
+use Rattle.std.proofs.Common.{◌≡◌, ℕ, zero, suc, ◌+◌, ◌-◌, ◌<◌, ◌≤◌, Bool, true, false, cond, ◌&&◌, ◌||◌, eqb, ltb, leb, List, [], ◌∷◌, ◌++◌, map, length, get_or, take, replicate, Some, None, Option, Ok, Err, sym, refl, ap, ◌∙◌, arith, lit≤, length-append, length-take}
 use lib.ListN.{length-replicate}
 use Rattle.std.specs.List.{AllByRecursion}
 use Rattle.std.proofs.lemmas.Bool.{and_parts, leb-true, ltb-true, eqb-true, eqb-false, cond_both}
@@ -8,7 +8,6 @@ use Rattle.reading.specs.declared.Reply.TheVariants.{Configuration}
 use Rattle.reading.specs.Tests.{between, every, find}
 use Rattle.reading.specs.Commands.{Command, idle, print, send, sound_beep, pulse_drawer, line_feed, vertical_tab, form_feed, horizontal_tab, cancel_row, delete, attributes_off, set_emphasised, set_one_line_width, set_expanded, set_double_height, set_underline, set_italic, set_print_mode, set_spacing, feed_steps, repeat, set_page_length, set_vertical_stops, set_horizontal_stops, set_left_margin, set_right_margin, cut, bar_code, configure, reset}
 use Rattle.reading.specs.Reading.{is_text}
-use Rattle.job.specs.declared.bars.Verdict.TheVariants.{Accepted, UnknownKind, WrongCharacter, WrongLength}
 use Rattle.job.specs.Actions.{Attributes, Cell, Blank, Act, row, advance, bars, total_cut, partial_cut, reply}
 use Rattle.job.specs.Printer.{Printer, Margins, Paper, Cutter, emptied, margins_of, with_row, change_margins, position}
 use Rattle.job.specs.Row.{closed_cell, is_blank, padded, cells_of, width_of, next_attributes, fits, with_character, next_beyond, tabbed, last_width, deleted, left_margin_at}
@@ -279,15 +278,13 @@ bars_kept ps s p e h = go (kind_of n) refl (verdict (kind_of n) s) refl
     height = filled_in 50 50 200 (get_or ps 2 0) (lit≤ tt) (lit≤ tt) parts.1
 
     go : (k : Option BarKind) → kind_of n ≡ k → (v : Verdict) → verdict k s ≡ v → SoundEffect (judge v (bars_of k w t (eqb (get_or ps 3 0) 1) s) p)
-    go None j Accepted k = let z : ◌≡◌ {A = ℕ} 0 1 = cc in absurd (omega arith)
-    go (Some kind) j Accepted k =
-        let same : verdict (kind_of (kind_number kind)) s ≡ Accepted =
+    go None j (Ok u) k = let z : ◌≡◌ {A = ℕ} 0 1 = cc in absurd (omega arith)
+    go (Some kind) j (Ok u) k =
+        let same : verdict (kind_of (kind_number kind)) s ≡ Ok tt =
         ap (λ (i : ℕ). verdict (kind_of i) s) (numbered n kind j) ∙ ap (λ (o : Option BarKind). verdict o s) j ∙ k in
         let a : SoundEffect (close p) = close_kept p h in
         (All-append Orderable (close p).acts (bars kind w t (eqb (get_or ps 3 0) 1) s ∷ []) a.0 ((width.0, width.1, height.0, height.1, same), tt), a.1)
-    go k j UnknownKind v = ((tt, tt), h)
-    go k j WrongCharacter v = ((tt, tt), h)
-    go k j WrongLength v = ((tt, tt), h)
+    go k j (Err f) v = ((tt, tt), h)
 
 -- cut and repetition
 

@@ -1,5 +1,6 @@
 pub mod Tried
 pub mod Runs
+pub mod Every
 pub mod Strings
 pub mod Simple
 pub mod Rows

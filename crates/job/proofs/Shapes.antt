@@ -1,11 +1,11 @@
 -- What one byte orders: at most one row, then equal advances, then at most one other action.
-use Rattle.std.proofs.Common.{◌≡◌, ℕ, zero, suc, ◌-◌, ◌≤◌, Bool, true, false, cond, ◌&&◌, ◌||◌, eqb, List, [], ◌∷◌, ◌++◌, map, length, get_or, replicate, Some, None, Option, sym, refl, ap, ◌∙◌, subst, append_assoc, append-nil, lit≤}
+use Rattle.std.proofs.Common.{◌≡◌, ℕ, zero, suc, ◌-◌, ◌≤◌, Bool, true, false, cond, ◌||◌, eqb, List, [], ◌∷◌, ◌++◌, map, length, get_or, replicate, Some, None, Option, Ok, Err, sym, refl, ap, ◌∙◌, append_assoc, append-nil, lit≤}
 use Rattle.std.specs.List.{AllByRecursion}
+use Rattle.std.proofs.lemmas.Bool.{and_from}
 use Rattle.std.proofs.lemmas.List.{map-append}
 use Rattle.reading.specs.Tests.{every}
 use Rattle.reading.specs.Commands.{Command, idle, print, send, sound_beep, pulse_drawer, line_feed, vertical_tab, form_feed, horizontal_tab, cancel_row, delete, attributes_off, set_emphasised, set_one_line_width, set_expanded, set_double_height, set_underline, set_italic, set_print_mode, set_spacing, feed_steps, repeat, set_page_length, set_vertical_stops, set_horizontal_stops, set_left_margin, set_right_margin, cut, bar_code, configure, reset}
 use Rattle.reading.specs.Reading.{Meaning, more, done, refused, meaning}
-use Rattle.job.specs.declared.bars.Verdict.TheVariants.{Accepted, UnknownKind, WrongCharacter, WrongLength}
 use Rattle.job.specs.Actions.{Cell, Character, Tail, Act, row, advance, bars, total_cut, partial_cut, reply}
 use Rattle.job.specs.Printer.{Printer, Cutter, emptied}
 use Rattle.job.specs.Row.{closed_cell, is_blank, padded, closing, cells_of, next_attributes, fits, with_character}
@@ -15,6 +15,7 @@ use Rattle.job.specs.Lines.{feed_line, close_and_feed, put, lines_to_stop, lines
 use Rattle.job.specs.Commands.{cut_of, cut_paper, or_default, bars_of, judge, in_range, effect}
 use Rattle.job.specs.Job.{carry_out, act_on}
 use Rattle.job.specs.CommandLaws.{Other, InOrder, OneByteOrders}
+use Rattle.job.proofs.Every.{every_append}
 use Rattle.job.proofs.Feeds.{Bare, bare_blanks, bare_closing, advances, no_advances, more_advances, feed_acts, bare_feeds, feeds}
 
 -- spaces that wrap
@@ -22,16 +23,10 @@ use Rattle.job.proofs.Feeds.{Bare, bare_blanks, bare_closing, advances, no_advan
 abbrev pub space : Printer → Effect
 space = put false 0x20
 
-every_append : (xs ys : List Cell) → every is_blank xs ≡ true → every is_blank ys ≡ true → every is_blank (xs ++ ys) ≡ true
-every_append [] ys a b = b
-every_append (x ∷ xs) ys a b = go (is_blank x) a (λ h. every_append xs ys h b)
-  where
-    go : (t : Bool) → (t && every is_blank xs) ≡ true → (every is_blank xs ≡ true → every is_blank (xs ++ ys) ≡ true) → (t && every is_blank (xs ++ ys)) ≡ true
-    go true h f = f h
-    go false h f = h
-
 bare_append : (r q : List Cell) → Bare r → Bare q → Bare (r ++ q)
-bare_append r q a b = subst (λ (x : List Cell). every is_blank x ≡ true) (sym (map-append closed_cell r q)) (every_append (map closed_cell r) (map closed_cell q) a b)
+bare_append r q a b =
+    ap (λ (x : List Cell). every is_blank x) (map-append closed_cell r q)
+    ∙ (every_append is_blank (map closed_cell r) (map closed_cell q) ∙ and_from _ _ a b)
 
 bare_space : (p : Printer) → Bare (cells_of 0x20 (next_attributes false p.settings))
 bare_space p = go (p.settings.one_line_width || p.settings.attributes.wide)
@@ -184,11 +179,9 @@ cut_shaped c p = go c.on
     go false = none_shaped
 
 judged_shaped : (v : Verdict) (kind : Option BarKind) (width height : ℕ) (shown : Bool) (s : List ℕ) (p : Printer) → InOrder (judge v (bars_of kind width height shown s) p).acts
-judged_shaped Accepted None width height shown s p = closed_then p.row [] (lit≤ tt) tt
-judged_shaped Accepted (Some kind) width height shown s p = closed_then p.row (bars kind width height shown s ∷ []) (lit≤ tt) (tt, tt)
-judged_shaped UnknownKind kind width height shown s p = one_shaped _ tt
-judged_shaped WrongCharacter kind width height shown s p = one_shaped _ tt
-judged_shaped WrongLength kind width height shown s p = one_shaped _ tt
+judged_shaped (Ok u) None width height shown s p = closed_then p.row [] (lit≤ tt) tt
+judged_shaped (Ok u) (Some kind) width height shown s p = closed_then p.row (bars kind width height shown s ∷ []) (lit≤ tt) (tt, tt)
+judged_shaped (Err f) kind width height shown s p = one_shaped _ tt
 
 repeat_shaped : (what n : ℕ) (p : Printer) → InOrder (effect (repeat what n) p).acts
 repeat_shaped what n p = go (eqb what 0)

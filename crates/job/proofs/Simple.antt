@@ -1,5 +1,5 @@
 -- The texts of the actions other than rows, read between two texts.
-use Rattle.std.proofs.Common.{◌≡◌, ℕ, ◌+◌, ◌<◌, ◌≤◌, Bool, true, false, eqb, leb, List, [], ◌∷◌, ◌++◌, length, Some, sym, refl, ap, ◌∙◌, append_assoc, append-nil, arith}
+use Rattle.std.proofs.Common.{◌≡◌, ℕ, ◌+◌, ◌<◌, ◌≤◌, Bool, true, false, eqb, leb, List, [], ◌∷◌, ◌++◌, length, Some, Ok, sym, refl, ap, ◌∙◌, append_assoc, append-nil, arith}
 use Rattle.std.specs.List.{AllByRecursion}
 use Rattle.std.proofs.lemmas.Bool.{ne_eqb, le-leb, lt-ltb, and_from}
 use Rattle.std.proofs.lemmas.List.{length_push}
@@ -8,7 +8,6 @@ use Rattle.reading.specs.declared.Reply.{Reply}
 use Rattle.reading.specs.declared.Reply.TheVariants.{Status1, Status2, Identity, Configuration, WrongCharacter, WrongLength, UnknownKind}
 use Rattle.reading.specs.Tests.{between}
 use Rattle.reading.specs.Reading.{bar_string}
-use Rattle.job.specs.declared.bars.Verdict.TheVariants.{Accepted}
 use Rattle.job.specs.Actions.{Act, advance, bars, total_cut, partial_cut, pulse, beep, reply}
 use Rattle.job.specs.Printer.{Printer, new_printer_at}
 use Rattle.job.specs.BarCodes.{BarKind, Ean13, Ean8, Standard2of5, Interleaved2of5, Code128, Code39, Code93, UpcA, Codabar, Msi, Code11, kind_number, kind_of, verdict}
@@ -61,19 +60,19 @@ string_read p ps got (b ∷ s) h k =
     (string_byte p ps got b h.0 (omega arith))
     (string_read p ps (got ++ b ∷ []) s h.1 (simp length_push (omega arith)) ∙ ap (λ (x : List ℕ). stay (in_string p ps x)) (append_assoc got (b ∷ []) s))
 
--- the number of an accepted kind names that kind
-known : (kind : BarKind) (s : List ℕ) → verdict (kind_of (kind_number kind)) s ≡ Accepted → kind_of (kind_number kind) ≡ Some kind
-known Ean13 s v = refl
-known Ean8 s v = refl
-known Standard2of5 s v = refl
-known Interleaved2of5 s v = refl
-known Code128 s v = refl
-known Code39 s v = refl
-known Code93 s v = refl
-known UpcA s v = refl
-known Codabar s v = refl
-known Msi s v = refl
-known Code11 s v = refl
+-- the number of a kind names that kind
+pub known : (kind : BarKind) → kind_of (kind_number kind) ≡ Some kind
+known Ean13 = refl
+known Ean8 = refl
+known Standard2of5 = refl
+known Interleaved2of5 = refl
+known Code128 = refl
+known Code39 = refl
+known Code93 = refl
+known UpcA = refl
+known Codabar = refl
+known Msi = refl
+known Code11 = refl
 
 flag_back : (b : Bool) → eqb (flag b) 1 ≡ b
 flag_back true = refl
@@ -86,9 +85,8 @@ bars_end kind width height shown line s h =
     let h0 : eqb height 0 ≡ false = ne_eqb height 0 (λ e. omega arith) in
     let w : between 2 5 width ≡ true = and_from (leb 2 width) (leb width 5) (le-leb 2 width h.0) (le-leb width 5 h.1) in
     let g : between 50 200 height ≡ true = and_from (leb 50 height) (leb height 200) (le-leb 50 height h.2) (le-leb height 200 h.3) in
-    let v : verdict (kind_of (kind_number kind)) s ≡ Accepted = h.4 in
-    let k : kind_of (kind_number kind) ≡ Some kind = known kind s v in
-    rw (w0, h0, w, g, v, k, flag_back shown, w0, h0)
+    let v : verdict (kind_of (kind_number kind)) s ≡ Ok tt = h.4 in
+    rw (w0, h0, w, g, v, known kind, flag_back shown, w0, h0)
 
 pub bars_read : (kind : BarKind) (width height : ℕ) (shown : Bool) (line : ℕ) (s : List ℕ) → Orderable (bars kind width height shown s)
     → ReadsBack (bars kind width height shown s) line

@@ -1,9 +1,9 @@
 -- The strings that a kind of bar code accepts: at most 25 bytes, none of them 00.
-use Rattle.std.proofs.Common.{◌≡◌, ℕ, ◌+◌, ◌%◌, ◌<◌, ◌≤◌, Bool, true, false, cond, ◌||◌, eqb, leb, List, [], ◌∷◌, length, Some, None, Option, refl, subst, ⊎_elim, arith, lit≤}
+use Rattle.std.proofs.Common.{◌≡◌, ℕ, ◌+◌, ◌%◌, ◌<◌, ◌≤◌, Bool, true, false, cond, ◌||◌, eqb, leb, List, [], ◌∷◌, length, Some, None, Option, Ok, Err, refl, subst, ⊎_elim, arith, lit≤}
 use Rattle.std.specs.List.{AllByRecursion}
 use Rattle.std.proofs.lemmas.Bool.{and_parts, or_cases, leb-true, eqb-true, false≢true}
 use Rattle.reading.specs.Tests.{between, one_of, every}
-use Rattle.job.specs.declared.bars.Verdict.TheVariants.{Accepted, WrongCharacter, WrongLength}
+use Rattle.job.specs.declared.bars.BarFault.TheVariants.{WrongCharacter, WrongLength}
 use Rattle.job.specs.BarCodes.{BarKind, Ean13, Ean8, Standard2of5, Interleaved2of5, Code128, Code39, Code93, UpcA, Codabar, Msi, Code11, is_digit, is_code39, is_codabar_end, is_codabar_inner, is_codabar, right_character, right_from, right_characters, right_length, verdict}
 
 -- a byte other than 00
@@ -90,18 +90,18 @@ pub record Taken (kind : BarKind) (s : List ℕ) : Type 0 where
   pub characters : right_characters kind s ≡ true
   pub size : right_length kind (length s) ≡ true
 
-accepted_parts : (kind : BarKind) (s : List ℕ) → verdict (Some kind) s ≡ Accepted → Taken kind s
+accepted_parts : (kind : BarKind) (s : List ℕ) → verdict (Some kind) s ≡ Ok tt → Taken kind s
 accepted_parts kind s e = go (right_characters kind s) (right_length kind (length s)) refl refl e
   where
-    go : (x y : Bool) → right_characters kind s ≡ x → right_length kind (length s) ≡ y → cond x (cond y Accepted WrongLength) WrongCharacter ≡ Accepted → Taken kind s
+    go : (x y : Bool) → right_characters kind s ≡ x → right_length kind (length s) ≡ y → cond x (cond y (Ok (tt {0})) (Err WrongLength)) (Err WrongCharacter) ≡ Ok (tt {0}) → Taken kind s
     go true true p q v = record { characters = p; size = q }
     go true false p q v = let z : ◌≡◌ {A = ℕ} 0 1 = cc in absurd (omega arith)
     go false y p q v = let z : ◌≡◌ {A = ℕ} 0 1 = cc in absurd (omega arith)
 
-pub accepted_filled : (kind : Option BarKind) (s : List ℕ) → verdict kind s ≡ Accepted → AllByRecursion Filled s
+pub accepted_filled : (kind : Option BarKind) (s : List ℕ) → verdict kind s ≡ Ok tt → AllByRecursion Filled s
 accepted_filled None s e = let z : ◌≡◌ {A = ℕ} 0 1 = cc in absurd (omega arith)
 accepted_filled (Some kind) s e = filled_from kind (length s) 0 s (accepted_parts kind s e).characters
 
-pub accepted_short : (kind : Option BarKind) (s : List ℕ) → verdict kind s ≡ Accepted → length s ≤ 25
+pub accepted_short : (kind : Option BarKind) (s : List ℕ) → verdict kind s ≡ Ok tt → length s ≤ 25
 accepted_short None s e = let z : ◌≡◌ {A = ℕ} 0 1 = cc in absurd (omega arith)
 accepted_short (Some kind) s e = short_length kind (length s) (accepted_parts kind s e).size

@@ -1,10 +1,13 @@
 -- Bar codes: the kinds by their numbers, and what string each kind may have.
-use Rattle.std.specs.Prelude.{ℕ, ◌+◌, ◌%◌, Bool, true, cond, ◌&&◌, ◌||◌, List, [], ◌∷◌, length, Some, None, Option, ◌==◌}
+use Rattle.std.specs.Prelude.{◌≡◌, ℕ, ◌+◌, ◌%◌, Bool, true, cond, ◌&&◌, ◌||◌, List, [], ◌∷◌, length, Some, None, Option, Ok, Err, Result, MatchResult, ◌==◌}
 use Rattle.reading.specs.Tests.{between, one_of, find}
+use Rattle.reading.specs.declared.Reply.{Reply}
+use Rattle.reading.specs.declared.Reply.TheVariants as reply
 pub use Rattle.job.specs.declared.bars.BarKind.{BarKind}
 pub use Rattle.job.specs.declared.bars.BarKind.TheVariants.{Ean13, Ean8, Standard2of5, Interleaved2of5, Code128, Code39, Code93, UpcA, Codabar, Msi, Code11}
-pub use Rattle.job.specs.declared.bars.Verdict.{Verdict}
-use Rattle.job.specs.declared.bars.Verdict.TheVariants.{Accepted, UnknownKind, WrongCharacter, WrongLength}
+use Rattle.job.specs.declared.bars.NoSuchKind.{NoSuchKind}
+pub use Rattle.job.specs.declared.bars.BarFault.{BarFault}
+use Rattle.job.specs.declared.bars.BarFault.TheVariants.{UnknownKind, WrongCharacter, WrongLength}
 
 -- the number under which a stream names a kind
 abbrev pub kind_number : BarKind → ℕ
@@ -30,6 +33,14 @@ bar_kinds =
 -- the kind of a number; none of a number that is not in the table
 abbrev pub kind_of : ℕ → Option BarKind
 kind_of n = find None bar_kinds n
+
+-- the kind of a number, or an error with a number that is not in the table
+abbrev pub NamesKind : ℕ → Result BarKind NoSuchKind → Type 0
+NamesKind n r = MatchResult r (λ kind. kind_of n ≡ Some kind) (λ e. (kind_of n ≡ None) × (e.0 ≡ n))
+
+-- what is found of a bar code: nothing wrong, or its first fault
+abbrev pub Verdict : Type 0
+Verdict = Result (Unit {0}) BarFault
 
 -- 0 to 9
 abbrev pub is_digit : ℕ → Bool
@@ -94,6 +105,12 @@ right_length Code11 n = between 1 25 n
 
 -- first the kind, then the characters, then the length
 abbrev pub verdict : Option BarKind → List ℕ → Verdict
-verdict None s = UnknownKind
+verdict None s = Err UnknownKind
 verdict (Some kind) s =
-    cond (right_characters kind s) (cond (right_length kind (length s)) Accepted WrongLength) WrongCharacter
+    cond (right_characters kind s) (cond (right_length kind (length s)) (Ok tt) (Err WrongLength)) (Err WrongCharacter)
+
+-- what a fault answers the host
+abbrev pub fault_reply : BarFault → Reply
+fault_reply UnknownKind = reply.UnknownKind
+fault_reply WrongCharacter = reply.WrongCharacter
+fault_reply WrongLength = reply.WrongLength

@@ -1,13 +1,12 @@
 -- What each complete command does to the printer, and what it orders.
-use Rattle.std.specs.Prelude.{ℕ, ◌+◌, Bool, true, false, cond, ◌&&◌, ◌||◌, List, [], ◌∷◌, Some, None, Option, ◌==◌, nat_le, nat_lt, slice_index}
-use Rattle.reading.specs.declared.Reply.TheVariants.{Configuration, WrongCharacter, WrongLength, UnknownKind}
+use Rattle.std.specs.Prelude.{ℕ, ◌+◌, Bool, true, false, cond, ◌&&◌, ◌||◌, List, [], ◌∷◌, Some, None, Option, Ok, Err, ◌==◌, nat_le, nat_lt, slice_index}
+use Rattle.reading.specs.declared.Reply.TheVariants.{Configuration}
 use Rattle.reading.specs.Tests.{between, every}
 use Rattle.reading.specs.Commands.{Command, idle, print, send, sound_beep, pulse_drawer, line_feed, vertical_tab, form_feed, horizontal_tab, cancel_row, delete, attributes_off, set_emphasised, set_one_line_width, set_expanded, set_double_height, set_underline, set_italic, set_print_mode, set_spacing, feed_steps, repeat, set_page_length, set_vertical_stops, set_horizontal_stops, set_left_margin, set_right_margin, cut, bar_code, configure, reset}
-use Rattle.job.specs.declared.bars.Verdict.TheVariants as verdicts
 use Rattle.job.specs.Actions.{plain, Act, bars, total_cut, partial_cut, pulse, beep, reply}
 use Rattle.job.specs.Printer.{Printer, Cutter, with_attributes, with_one_line_width, with_margins, with_horizontal_stops, with_vertical_stops, with_cutter, change, change_attributes, change_margins, change_paper, emptied, margins_of, reset_printer}
 use Rattle.job.specs.Row.{tabbed, deleted, left_margin_at}
-use Rattle.job.specs.BarCodes.{BarKind, Verdict, kind_of, verdict}
+use Rattle.job.specs.BarCodes.{BarKind, Verdict, kind_of, verdict, fault_reply}
 use Rattle.job.specs.Configuration.{BodySettings, body_in_range, body_settings}
 use Rattle.job.specs.Effects.{Effect, quiet, order, ◌then◌, times}
 use Rattle.job.specs.Lines.{close, advance_by, feed_line, close_and_feed, put, lines_to_stop, lines_to_page}
@@ -30,12 +29,10 @@ abbrev pub bars_of : Option BarKind → ℕ → ℕ → Bool → List ℕ → Li
 bars_of None width height shown s = []
 bars_of (Some kind) width height shown s = bars kind width height shown s ∷ []
 
--- accepted bars close the row; any other verdict is a reply alone
+-- accepted bars close the row; a fault is a reply alone
 abbrev pub judge : Verdict → List Act → Printer → Effect
-judge verdicts.Accepted acts p = close p then (λ q. record { acts = acts; printer = q })
-judge verdicts.UnknownKind acts p = order (reply UnknownKind) p
-judge verdicts.WrongCharacter acts p = order (reply WrongCharacter) p
-judge verdicts.WrongLength acts p = order (reply WrongLength) p
+judge (Ok u) acts p = close p then (λ q. record { acts = acts; printer = q })
+judge (Err f) acts p = order (reply (fault_reply f)) p
 
 -- the four parameters: kind, width, height, and 1 for a shown string
 abbrev pub draw_bars : List ℕ → List ℕ → Printer → Effect

@@ -1,8 +1,7 @@
 -- What a stream can order.
-use Rattle.std.specs.Prelude.{◌≡◌, ℕ, ◌≤◌, true, false, List, [], ◌∷◌, length}
+use Rattle.std.specs.Prelude.{◌≡◌, ℕ, ◌≤◌, true, false, List, [], ◌∷◌, length, Ok}
 use Rattle.reading.specs.Tests.{every}
 use Rattle.reading.specs.Reading.{is_text}
-use Rattle.job.specs.declared.bars.Verdict.TheVariants.{Accepted}
 use Rattle.job.specs.Actions.{Attributes, Cell, Blank, Character, Tail, Act, row, advance, bars, total_cut, partial_cut, pulse, beep, reply}
 use Rattle.job.specs.Row.{is_invisible, is_blank}
 use Rattle.job.specs.BarCodes.{kind_number, kind_of, verdict}
@@ -25,7 +24,7 @@ Orderable (row cells) = LaidOut Visible cells × (length cells ≡ 48) × (every
 Orderable (advance n) = (1 ≤ n) × (n ≤ 255)
 -- parameters filled in, and a string that the kind accepts
 Orderable (bars kind width height shown s) =
-    (2 ≤ width) × (width ≤ 5) × (50 ≤ height) × (height ≤ 200) × (verdict (kind_of (kind_number kind)) s ≡ Accepted)
+    (2 ≤ width) × (width ≤ 5) × (50 ≤ height) × (height ≤ 200) × (verdict (kind_of (kind_number kind)) s ≡ Ok tt)
 Orderable total_cut = Unit {0}
 Orderable partial_cut = Unit {0}
 Orderable pulse = Unit {0}

@@ -36,6 +36,7 @@ impl Attributes {
     pub fn width(self) -> u8
         ensures { result ≡ width_of self }
     {
+        // the two widths as they are; 1 + u8::from(self.wide) would hide them
         if self.wide { 2 } else { 1 }
     }
 }
@@ -52,21 +53,17 @@ impl Cell {
         }
     }
 
+    /// Nothing stands in the column.
     pub fn is_blank(self) -> bool
         ensures { result ≡ is_blank self }
     {
-        match self {
-            Cell::Blank => true,
-            Cell::Character(_, _) | Cell::Tail(_, _) => false,
-        }
+        self == Cell::Blank
     }
 
+    /// The second column of a wide character.
     pub fn is_tail(self) -> bool
         ensures { result ≡ is_tail self }
     {
-        match self {
-            Cell::Tail(_, _) => true,
-            Cell::Blank | Cell::Character(_, _) => false,
-        }
+        matches!(self, Cell::Tail(_, _))
     }
 }

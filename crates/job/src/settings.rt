@@ -1,6 +1,6 @@
 //! The parts of the printer's settings.
 
-/// Columns count from 1.
+/// The columns between which characters are put, counted from 1.
 #[derive(Clone, Copy, PartialEq, Eq)]
 pub struct Margins {
     /// How many columns there are.
@@ -9,6 +9,7 @@ pub struct Margins {
     pub right: u8,
 }
 
+/// How the paper is fed.
 #[derive(Clone, Copy, PartialEq, Eq)]
 pub struct Paper {
     /// The steps of a line feed.
@@ -19,6 +20,7 @@ pub struct Paper {
     pub line: u8,
 }
 
+/// How the paper is cut.
 #[derive(Clone, Copy, PartialEq, Eq)]
 pub struct Cutter {
     pub on: bool,
