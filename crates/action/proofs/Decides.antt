@@ -1,31 +1,20 @@
 -- The test decides what a stream can order.
-use Rattle.std.proofs.Common.{◌≡◌, ℕ, Bool, true, false, not, ◌&&◌, eqb, List, [], ◌∷◌, length, refl, ap, subst}
+use Rattle.std.proofs.Common.{◌≡◌, ℕ, Bool, true, false, not, ◌&&◌, eqb, List, [], ◌∷◌, length, is_ok, Ok, Err, refl, ap, subst}
 use mathlib.Core.Logic.{∥∥₁_elim}
 use mathlib.Core.Bool.{beq, Bool-set}
 use Rattle.std.proofs.lemmas.Bool.{and_parts, and_from, both_ways, not-true, not_from_false, eqb-true, eq-eqb, le-leb}
+use Rattle.std.specs.Cmp.{booleans_Decides}
 use Rattle.reading.specs.Tests.{between}
 use Rattle.reading.specs.Reading.{is_text}
 use Rattle.job.specs.declared.cells.Attributes.{Attributes}
 use Rattle.job.specs.declared.cells.Cell.{Cell}
 use Rattle.job.specs.declared.cells.Cell.TheVariants.{Blank, Character, Tail}
-use Rattle.job.specs.declared.bars.Verdict.{Verdict}
-use Rattle.job.specs.declared.bars.Verdict.TheVariants.{Accepted, UnknownKind, WrongCharacter, WrongLength}
 use Rattle.job.specs.Actions.{Act, row, advance, bars, total_cut, partial_cut, pulse, beep, reply}
 use Rattle.job.specs.Row.{is_invisible}
-use Rattle.job.specs.BarCodes.{kind_number, kind_of, verdict}
+use Rattle.job.specs.BarCodes.{Verdict, kind_number, kind_of, verdict}
 use Rattle.job.specs.Orderable.{LaidOut, none, blank, narrow, wide, Visible, Orderable}
 use Rattle.job.proofs.Strings.{between_true}
-use Rattle.action.specs.Tests.{same_attributes, opens_wide, has_tail, follows, laid_behind, is_accepted, can_be_ordered}
-
-same_bool : (a b : Bool) → beq a b ≡ true → a ≡ b
-same_bool true true h = refl
-same_bool true false h = absurd (both_ways false refl h)
-same_bool false true h = absurd (both_ways false refl h)
-same_bool false false h = refl
-
-bool_same : (a : Bool) → beq a a ≡ true
-bool_same true = refl
-bool_same false = refl
+use Rattle.action.specs.Tests.{same_attributes, opens_wide, has_tail, follows, laid_behind, can_be_ordered}
 
 attributes_equal : (s t : Attributes) → same_attributes s t ≡ true → s ≡ t
 attributes_equal s t h =
@@ -33,17 +22,17 @@ attributes_equal s t h =
     let q = and_parts (beq s.tall t.tall) _ p.1 in
     let r = and_parts (beq s.wide t.wide) _ q.1 in
     let u = and_parts (beq s.underlined t.underlined) _ r.1 in
-    let e = same_bool _ _ p.0 in
-    let f = same_bool _ _ q.0 in
-    let g = same_bool _ _ r.0 in
-    let k = same_bool _ _ u.0 in
-    let l = same_bool _ _ u.1 in
+    let e = (booleans_Decides _ _).0 p.0 in
+    let f = (booleans_Decides _ _).0 q.0 in
+    let g = (booleans_Decides _ _).0 r.0 in
+    let k = (booleans_Decides _ _).0 u.0 in
+    let l = (booleans_Decides _ _).0 u.1 in
     λ i. record { emphasised = e i; tall = f i; wide = g i; underlined = k i; italic = l i }
 
 attributes_same : (s : Attributes) → same_attributes s s ≡ true
 attributes_same s =
-    and_from _ _ (bool_same s.emphasised) (and_from _ _ (bool_same s.tall) (and_from _ _ (bool_same s.wide)
-    (and_from _ _ (bool_same s.underlined) (bool_same s.italic))))
+    and_from _ _ ((booleans_Decides s.emphasised s.emphasised).1 refl) (and_from _ _ ((booleans_Decides s.tall s.tall).1 refl) (and_from _ _ ((booleans_Decides s.wide s.wide).1 refl)
+    (and_from _ _ ((booleans_Decides s.underlined s.underlined).1 refl) ((booleans_Decides s.italic s.italic).1 refl))))
 
 -- a character that may stand behind another column is visible
 visible : (o : Bool) (code : ℕ) (a : Attributes) → (not o && (is_text code && not (is_invisible code a))) ≡ true → (o ≡ false) × Visible code a
@@ -95,11 +84,9 @@ test_from_laid_out c o (wide {code = code} {a = a} v w l) =
     and_from _ _ (and_from _ _ (not_from_false (opens_wide c) o) (and_from _ _ v.0 (not_from_false _ v.1)))
     (and_from _ _ (and_from _ _ w (and_from _ _ (eq-eqb code code refl) (attributes_same a))) (test_from_laid_out (Tail code a) refl l))
 
-accepted : (v : Verdict) → is_accepted v ≡ true → v ≡ Accepted
-accepted Accepted h = refl
-accepted UnknownKind h = absurd (both_ways false refl h)
-accepted WrongCharacter h = absurd (both_ways false refl h)
-accepted WrongLength h = absurd (both_ways false refl h)
+accepted : (v : Verdict) → is_ok v ≡ true → v ≡ Ok tt
+accepted (Ok u) h = refl
+accepted (Err f) h = absurd (both_ways false refl h)
 
 from_test : (a : Act) → can_be_ordered a ≡ true → Orderable a
 from_test (row cells) h =
@@ -124,7 +111,7 @@ to_test (row cells) h = and_from _ _ (test_from_laid_out Blank refl h.0) (and_fr
 to_test (advance n) h = and_from _ _ (le-leb 1 n h.0) (le-leb n 255 h.1)
 to_test (bars kind width height shown s) h =
     and_from _ _ (and_from _ _ (le-leb 2 width h.0) (le-leb width 5 h.1))
-    (and_from _ _ (and_from _ _ (le-leb 50 height h.2) (le-leb height 200 h.3)) (ap is_accepted h.4))
+    (and_from _ _ (and_from _ _ (le-leb 50 height h.2) (le-leb height 200 h.3)) (ap is_ok h.4))
 to_test total_cut h = refl
 to_test partial_cut h = refl
 to_test pulse h = refl

@@ -1,6 +1,6 @@
 pub mod Lists
 pub mod Rows
 pub mod BarCodes
-pub mod Advances
+pub mod Owing
 pub mod Decides
 pub mod Lawful

@@ -1,8 +1,10 @@
 -- The open row, as it grows and closes.
-use Rattle.std.proofs.Common.{◌≡◌, ℕ, ◌+◌, ◌-◌, ◌<◌, ◌≤◌, Bool, true, false, cond, ◌&&◌, leb, List, [], ◌∷◌, ◌++◌, map, length, get_or, take, drop, set, replicate, sym, ap, ◌∙◌, subst, arith, length-set}
+use Rattle.std.proofs.Common.{◌≡◌, ℕ, zero, suc, ◌+◌, ◌-◌, ◌<◌, ◌≤◌, Bool, true, false, cond, ◌&&◌, List, [], ◌∷◌, ◌++◌, map, length, take, drop, set, replicate, sym, refl, ap, ◌∙◌, subst, arith, length-append, length-drop, length-set}
 use mathlib.Core.Logic.{∥∥₁_map}
-use Rattle.std.proofs.lemmas.Bool.{cond-false, and_from, le-leb}
-use Rattle.std.proofs.lemmas.List.{append_assoc, take-append-drop, take_more_set, take-take, map_more, drop-set-lt, drop-drop, drop-replicate, length-map, length-take-le}
+use lib.ListN.{length-replicate}
+use Rattle.std.proofs.Math.Bool.{and-true}
+use Rattle.std.proofs.lemmas.Bool.{cond-false}
+use Rattle.std.proofs.lemmas.List.{append_assoc, take_more_set, take-take, map-append, drop-replicate, length-map, length-take-le}
 use Rattle.reading.specs.Tests.{every}
 use Rattle.reading.specs.Reading.{is_text}
 use Rattle.job.specs.declared.cells.Attributes.{Attributes}
@@ -12,102 +14,82 @@ use Rattle.job.specs.Actions.{row}
 use Rattle.job.specs.Row.{closed_cell, is_blank, padded, closing, cells_of, width_of, last_width}
 use Rattle.job.specs.Orderable.{LaidOut, Orderable}
 use Rattle.job.specs.Invariants.{TextCharacter}
+use Rattle.job.proofs.Every.{every_append}
 use Rattle.job.proofs.Columns.{closed_orderable, laid_append, laid_cells, laid_shortened}
 use Rattle.action.specs.declared.open_row.OpenRow.{OpenRow}
 use Rattle.action.specs.Columns.{columns}
-use Rattle.action.proofs.Lists.{every_push}
 
--- the first n columns of `cells` are those of xs, closed, and the others are blank
-pub record Closed (n : ℕ) (xs cells : List Cell) (empty : Bool) : Type 0 where
-  pub front : take n cells ≡ map closed_cell (take n xs)
-  pub back : drop n cells ≡ replicate (48 - n) Blank
-  pub bare : empty ≡ every is_blank (map closed_cell (take n xs))
-  pub long : length cells ≡ 48
+blanks_closed : (n : ℕ) → map closed_cell (replicate n Blank) ≡ replicate n Blank
+blanks_closed zero = refl
+blanks_closed (suc n) = ap (λ (xs : List Cell). Blank ∷ xs) (blanks_closed n)
 
-pub closed_more : (i : ℕ) (xs cells : List Cell) (d y : Cell) (e b : Bool) → i < 48 → length xs ≡ 48 → Closed i xs cells e
-    → y ≡ closed_cell (get_or xs i d) → b ≡ is_blank y → Closed (i + 1) xs (set cells i y) (e && b)
-closed_more i xs cells d y e b h l s at_i is =
-    let m : map closed_cell (take (i + 1) xs) ≡ map closed_cell (take i xs) ++ y ∷ [] =
-    map_more closed_cell xs i d (omega arith) ∙ ap (λ (z : Cell). map closed_cell (take i xs) ++ z ∷ []) (sym at_i) in
-    let hl : i < length cells = omega (arith, s.long) in
-    record {
-      front = take_more_set cells i y hl ∙ (ap (λ (zs : List Cell). zs ++ y ∷ []) s.front ∙ sym m);
-      back = drop-set-lt (i + 1) cells i y (omega arith) ∙ (sym (drop-drop 1 i cells) ∙ (ap (drop 1) s.back ∙ (drop-replicate 1 (48 - i) Blank ∙ ap (λ (k : ℕ). replicate k Blank) (omega arith))));
-      bare = (cc (s.bare, is)) ∙ (sym (every_push is_blank (map closed_cell (take i xs)) y) ∙ sym (ap (every is_blank) m));
-      long = simp length-set s.long;
-    }
+-- columns put at the front of a blank row
+module _ (n : ℕ) (xs cells : List Cell) (e : cells ≡ xs) (k : length xs ≡ n) (h : n ≤ 48) where
+  pub fronted_long : length (cells ++ drop n (replicate 48 Blank)) ≡ 48
+  fronted_long = simp (length-append, length-drop, length-replicate) (omega (arith, ap (λ (ys : List Cell). length ys) e))
 
-pub closed_all : (n : ℕ) (xs cells : List Cell) (e : Bool) → n ≤ 48 → length xs ≡ 48 → Closed n xs cells e → cells ≡ padded (map closed_cell (take n xs))
-closed_all n xs cells e h l s =
-    let k : length (map closed_cell (take n xs)) ≡ n = length-map (take n xs) closed_cell ∙ length-take-le n xs (omega arith) in
-    sym (take-append-drop n cells) ∙ (cc (s.front, s.back, k))
+  pub fronted_closed : map closed_cell (cells ++ drop n (replicate 48 Blank)) ≡ padded (map closed_cell xs)
+  fronted_closed =
+      map-append closed_cell cells (drop n (replicate 48 Blank))
+      ∙ (ap (λ (ys : List Cell). map closed_cell cells ++ map closed_cell ys) (drop-replicate n 48 Blank)
+      ∙ (ap (λ (ys : List Cell). map closed_cell cells ++ ys) (blanks_closed (48 - n))
+      ∙ (ap (λ (ys : List Cell). map closed_cell ys ++ replicate (48 - n) Blank) e
+      ∙ ap (λ (m : ℕ). map closed_cell xs ++ replicate (48 - m) Blank) (sym (length-map xs closed_cell ∙ k)))))
 
--- columns of which some are not blank are the row that closing orders
-module _ (n len : ℕ) (xs cells : List Cell) (e : Bool) (same : n ≡ len) (h : len ≤ 48) (l : length xs ≡ 48) (s : Closed n xs cells e) (f : e ≡ false) where
-  shown : every is_blank (map closed_cell (take len xs)) ≡ false
-  shown = subst (λ (k : ℕ). every is_blank (map closed_cell (take k xs)) ≡ false) same (sym s.bare ∙ f)
+blanks_blank : (n : ℕ) → every is_blank (replicate n Blank) ≡ true
+blanks_blank zero = refl
+blanks_blank (suc n) = blanks_blank n
 
-  all : cells ≡ padded (map closed_cell (take len xs))
-  all = subst (λ (k : ℕ). cells ≡ padded (map closed_cell (take k xs))) same (closed_all n xs cells e (omega arith) l s)
-
-  pub closed_ordered : row cells ∷ [] ≡ closing (take len xs)
-  closed_ordered = ap (λ (zs : List Cell). row zs ∷ []) all ∙ sym (cond-false (every is_blank (map closed_cell (take len xs))) [] (row (padded (map closed_cell (take len xs))) ∷ []) shown)
-
-  pub closed_ok : ∥ LaidOut TextCharacter (take len xs) ∥₁ → ∥ Orderable (row cells) ∥₁
-  closed_ok k =
-      let n : length (take len xs) ≤ 48 = omega (arith, length-take-le len xs (omega arith)) in
-      ∥∥₁_map k (λ q. subst (λ (zs : List Cell). Orderable (row zs)) (sym all) (closed_orderable (take len xs) q n shown))
+-- columns are all blank exactly if they are with blanks behind them
+padded_blank : (n : ℕ) (xs : List Cell) → every is_blank (xs ++ replicate n Blank) ≡ every is_blank xs
+padded_blank n xs = every_append is_blank xs (replicate n Blank) ∙ (ap (λ (b : Bool). every is_blank xs && b) (blanks_blank n) ∙ and-true (every is_blank xs))
 
 pub columns_length : (r : OpenRow) → length (columns r) ≡ r.len
 columns_length r = length-take-le r.len r.cells (omega (arith, r.within, r.sized))
+
+-- closed columns of which some are not blank are the row that closing orders
+module _ (r : OpenRow) (cells : List Cell) (e : cells ≡ padded (map closed_cell (columns r))) (f : every is_blank cells ≡ false) where
+  shown : every is_blank (map closed_cell (columns r)) ≡ false
+  shown = sym (padded_blank _ (map closed_cell (columns r))) ∙ (ap (λ (zs : List Cell). every is_blank zs) (sym e) ∙ f)
+
+  pub closed_ok : ∥ Orderable (row cells) ∥₁
+  closed_ok =
+      let n : length (columns r) ≤ 48 = omega (arith, columns_length r, r.within) in
+      ∥∥₁_map r.laid (λ q. subst (λ (zs : List Cell). Orderable (row zs)) (sym e) (closed_orderable (columns r) q n shown))
+
+  pub closed_ordered : row cells ∷ [] ≡ closing (columns r)
+  closed_ordered = ap (λ (zs : List Cell). row zs ∷ []) e ∙ sym (cond-false (every is_blank (map closed_cell (columns r))) [] (row (padded (map closed_cell (columns r))) ∷ []) shown)
 
 -- laid out columns behind the others
 pub laid_more : (before more after : List Cell) → ∥ LaidOut TextCharacter before ∥₁ → LaidOut TextCharacter more → after ≡ before ++ more → ∥ LaidOut TextCharacter after ∥₁
 laid_more before more after h k e = ∥∥₁_map h (λ q. subst (λ (x : List Cell). LaidOut TextCharacter x) (sym e) (laid_append q k))
 
 -- a character put at the position
-pub record Put (r : OpenRow) (code : ℕ) (a : Attributes) (cells : List Cell) (len : ℕ) : Type 0 where
-  pub sized : length cells ≡ 48
-  pub within : len ≤ 48
-  pub joined : take len cells ≡ columns r ++ cells_of code a
-
 abbrev character : ℕ → Attributes → Bool → List Cell
 character code a w = Character code a ∷ cond w (Tail code a ∷ []) []
 
-module _ (r : OpenRow) (code w : ℕ) (a : Attributes) (t : true ≡ is_text code) (e : w ≡ width_of a) (room : r.len + w ≤ 48) where
+module _ (r : OpenRow) (code w : ℕ) (a : Attributes) (cells : List Cell) (e : w ≡ width_of a) (room : r.len + w ≤ 48) where
   put_first : r.len < 48 → take (r.len + 1) (set r.cells r.len (Character code a)) ≡ columns r ++ Character code a ∷ []
   put_first h = take_more_set r.cells r.len (Character code a) (omega (arith, r.sized))
 
-  pub put_narrow : a.wide ≡ false → Put r code a (set r.cells r.len (Character code a)) (r.len + 1)
-  put_narrow n =
+  pub put_narrow : a.wide ≡ false → cells ≡ set r.cells r.len (Character code a) → take (r.len + w) cells ≡ columns r ++ cells_of code a
+  put_narrow n c =
       let one : w ≡ 1 = e ∙ ap (λ (b : Bool). cond b 2 1) n in
-      record {
-        sized = simp length-set r.sized;
-        within = omega arith;
-        joined = put_first (omega arith) ∙ ap (λ (b : Bool). columns r ++ character code a b) (sym n);
-      }
+      cc (c, one) ∙ put_first (omega arith) ∙ ap (λ (b : Bool). columns r ++ character code a b) (sym n)
 
-  pub put_wide : a.wide ≡ true → Put r code a (set (set r.cells r.len (Character code a)) (r.len + 1) (Tail code a)) (r.len + 2)
-  put_wide n =
+  pub put_wide : a.wide ≡ true → cells ≡ set (set r.cells r.len (Character code a)) (r.len + 1) (Tail code a) → take (r.len + w) cells ≡ columns r ++ cells_of code a
+  put_wide n c =
       let two : w ≡ 2 = e ∙ ap (λ (b : Bool). cond b 2 1) n in
-      let both : r.len + 2 ≡ r.len + 1 + 1 = omega arith in
-      let cells : List Cell = set r.cells r.len (Character code a) in
-      record {
-        sized = simp length-set r.sized;
-        within = omega arith;
-        joined =
-            ap (λ (k : ℕ). take k (set cells (r.len + 1) (Tail code a))) both
-            ∙ take_more_set cells (r.len + 1) (Tail code a) (simp length-set (omega (arith, r.sized)))
-            ∙ ap (λ (x : List Cell). x ++ Tail code a ∷ []) (put_first (omega arith))
-            ∙ append_assoc (columns r) (Character code a ∷ []) (Tail code a ∷ [])
-            ∙ ap (λ (b : Bool). columns r ++ character code a b) (sym n);
-      }
+      let both : r.len + w ≡ r.len + 1 + 1 = omega arith in
+      let first : List Cell = set r.cells r.len (Character code a) in
+      cc (c, both)
+      ∙ take_more_set first (r.len + 1) (Tail code a) (simp length-set (omega (arith, r.sized)))
+      ∙ ap (λ (x : List Cell). x ++ Tail code a ∷ []) (put_first (omega arith))
+      ∙ append_assoc (columns r) (Character code a ∷ []) (Tail code a ∷ [])
+      ∙ ap (λ (b : Bool). columns r ++ character code a b) (sym n)
 
-  pub put_laid : (cells : List Cell) (len : ℕ) → Put r code a cells len → ∥ LaidOut TextCharacter (take len cells) ∥₁
-  put_laid cells len p = laid_more (columns r) (cells_of code a) (take len cells) r.laid (laid_cells code a (sym t)) p.joined
-
-  pub put_fits : true ≡ (is_text code && leb (length (columns r) + width_of a) 48)
-  put_fits = sym (and_from _ _ (sym t) (le-leb (length (columns r) + width_of a) 48 (omega (arith, columns_length r))))
+pub put_laid : (r : OpenRow) (code : ℕ) (a : Attributes) (after : List Cell) → true ≡ is_text code → after ≡ columns r ++ cells_of code a → ∥ LaidOut TextCharacter after ∥₁
+put_laid r code a after t p = laid_more (columns r) (cells_of code a) after r.laid (laid_cells code a (sym t)) p
 
 -- the last character taken back
 module _ (r : OpenRow) (w m : ℕ) (e : w ≡ last_width (columns r)) (f : m ≡ r.len - w) where

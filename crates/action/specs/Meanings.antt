@@ -3,6 +3,7 @@ use Rattle.std.specs.Prelude.{ℕ, cond, List, [], ◌∷◌, take, replicate, S
 use Rattle.job.specs.Actions.{Act, row, advance, bars, total_cut, partial_cut, pulse, beep, reply}
 use Rattle.action.specs.declared.row.Row.{Row}
 use Rattle.action.specs.declared.steps.Steps.{Steps}
+use Rattle.action.specs.declared.advances.Advances.{Advances}
 use Rattle.action.specs.declared.bars.Bars.{Bars}
 use Rattle.action.specs.declared.actions.Cut.{Cut}
 use Rattle.action.specs.declared.actions.Cut.TheVariants.{Total, Partial}
@@ -18,7 +19,7 @@ abbrev pub advance_act : Steps → Act
 advance_act s = advance s.count
 
 abbrev pub bars_act : Bars → Act
-bars_act b = bars b.kind b.width b.height b.shown (take b.len b.string)
+bars_act b = bars b.kind b.size.width b.size.height b.shown (take b.len b.string)
 
 abbrev pub cut_act : Cut → Act
 cut_act Total = total_cut
@@ -49,6 +50,11 @@ row_acts (Some r) = row_act r ∷ []
 abbrev pub advance_acts : Option Steps → List Act
 advance_acts None = []
 advance_acts (Some s) = advance_act s ∷ []
+
+-- the equal advances, if there are any
+abbrev pub advances_acts : Option Advances → List Act
+advances_acts None = []
+advances_acts (Some a) = replicate a.count (advance_act a.steps)
 
 -- the other action, if there is one
 abbrev pub other_acts : Option Other → List Act

@@ -1,14 +1,14 @@
 -- What is owed, in order.
-use Rattle.std.specs.Prelude.{◌≡◌, List, ◌++◌, replicate}
+use Rattle.std.specs.Prelude.{◌≡◌, List, ◌++◌}
 use Rattle.job.specs.Actions.{Act}
 use Rattle.action.specs.declared.owed.Owed.{Owed}
-use Rattle.action.specs.Meanings.{row_acts, advance_act, other_acts}
+use Rattle.action.specs.Meanings.{row_acts, advances_acts, other_acts}
 
 abbrev pub owed_row : Owed → List Act
 owed_row o = row_acts o.row
 
 abbrev pub owed_advances : Owed → List Act
-owed_advances o = replicate o.advances (advance_act o.steps)
+owed_advances o = advances_acts o.advances
 
 abbrev pub owed_other : Owed → List Act
 owed_other o = other_acts o.other

@@ -1,13 +1,11 @@
 -- Tests for what a stream can order.
-use Rattle.std.specs.Prelude.{ℕ, Bool, true, false, not, ◌&&◌, List, [], ◌∷◌, length, ◌==◌}
+use Rattle.std.specs.Prelude.{ℕ, Bool, true, false, not, ◌&&◌, List, [], ◌∷◌, length, is_ok, ◌==◌}
 use Rattle.std.specs.Bool.{beq}
 use Rattle.reading.specs.Tests.{between, every}
 use Rattle.reading.specs.Reading.{is_text}
 use Rattle.job.specs.declared.cells.Attributes.{Attributes}
 use Rattle.job.specs.declared.cells.Cell.{Cell}
 use Rattle.job.specs.declared.cells.Cell.TheVariants.{Blank, Character, Tail}
-use Rattle.job.specs.declared.bars.Verdict.{Verdict}
-use Rattle.job.specs.declared.bars.Verdict.TheVariants.{Accepted, UnknownKind, WrongCharacter, WrongLength}
 use Rattle.job.specs.Actions.{Act, row, advance, bars, total_cut, partial_cut, pulse, beep, reply}
 use Rattle.job.specs.Row.{is_invisible, is_blank}
 use Rattle.job.specs.BarCodes.{kind_number, kind_of, verdict}
@@ -40,18 +38,12 @@ abbrev pub laid_behind : Cell → List Cell → Bool
 laid_behind c [] = not (opens_wide c)
 laid_behind c (d ∷ cells) = follows c d && laid_behind d cells
 
-abbrev pub is_accepted : Verdict → Bool
-is_accepted Accepted = true
-is_accepted UnknownKind = false
-is_accepted WrongCharacter = false
-is_accepted WrongLength = false
-
 -- the test that decides what a stream can order
 abbrev pub can_be_ordered : Act → Bool
 can_be_ordered (row cells) = laid_behind Blank cells && (length cells == 48 && not (every is_blank cells))
 can_be_ordered (advance n) = between 1 255 n
 can_be_ordered (bars kind width height shown s) =
-    between 2 5 width && (between 50 200 height && is_accepted (verdict (kind_of (kind_number kind)) s))
+    between 2 5 width && (between 50 200 height && is_ok (verdict (kind_of (kind_number kind)) s))
 can_be_ordered total_cut = true
 can_be_ordered partial_cut = true
 can_be_ordered pulse = true

@@ -7,13 +7,14 @@ use crate::row::Row;
 use crate::steps::Steps;
 use reading::Reply;
 
+/// How the paper is cut.
 #[derive(Clone, Copy, PartialEq, Eq)]
 pub enum Cut {
     Total,
     Partial,
 }
 
-/// What the mechanism is to do.
+/// What the mechanism is to do. The cases of `Other` stand here again, so that a mechanism matches one enum.
 #[derive(Clone, Copy)]
 pub enum Action {
     Row(Row),
@@ -37,11 +38,11 @@ pub enum Other {
     Reply(Reply),
 }
 
-impl Other {
-    pub fn to_action(self) -> Action
-        ensures { act_of result ≡ other_act self }
-    {
-        match self {
+impl From<Other> for Action {
+    ghost from_gives = { λ other action. act_of action ≡ other_act other };
+
+    fn from(other: Other) -> Action {
+        match other {
             Other::Bars(bars) => Action::Bars(bars),
             Other::Cut(cut) => Action::Cut(cut),
             Other::Pulse => Action::Pulse,

@@ -20,11 +20,11 @@ pub struct BarSize {
 #[derive(Clone, Copy)]
 pub struct Bars {
     kind: BarKind,
-    width: u8,
-    height: u8,
+    size: BarSize,
     shown: bool,
+    // the string in place, with its count in a byte: a `Short<25>` counts in a word, and makes an interpreter, whose size is tested, 32 bytes larger
     string: [u8; 25],
     len: u8,
     ghost within: { len ≤ 25 },
-    ghost ok: { ∥ Orderable (bars kind width height shown (take len string)) ∥₁ },
+    ghost ok: { ∥ Orderable (bars kind size.width size.height shown (take len string)) ∥₁ },
 }

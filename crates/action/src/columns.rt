@@ -4,32 +4,23 @@ ghost use Rattle.reading.specs.Reading.{is_text};
 ghost use Rattle.reading.specs.Tests.{every};
 ghost use Rattle.job.specs.Row.{is_blank, is_invisible};
 ghost use Rattle.job.specs.declared.cells.Cell.TheVariants.{Blank};
-ghost use Rattle.action.specs.Tests.{same_attributes, opens_wide, has_tail, follows, laid_behind};
+ghost use Rattle.action.specs.Tests.{opens_wide, has_tail, follows, laid_behind};
 
 use job::cells::{Attributes, Cell};
+use reading::is_text;
 
-/// 20 to 7E and 80 to FF.
-pub fn is_text(code: u8) -> bool
-    ensures { result ≡ is_text code }
-{
-    code >= 0x20 && code != 0x7F
-}
-
+/// Whether nothing stands in any of the columns.
 pub fn all_blank(cells: &[Cell]) -> bool
     ensures { result ≡ every is_blank cells.now }
 {
-    for cell in cells {
-        if !cell.is_blank() {
-            return false;
-        }
-    }
-    true
+    cells.iter().all(|cell| cell.is_blank())
 }
 
 /// Whether a tail stands exactly behind each wide character, and each character is visible.
 pub fn laid_out(cells: &[Cell]) -> bool
     ensures { result ≡ laid_behind Blank cells.now }
 {
+    // each column is tested by the one before it, and the last of them once more: a chain would have to carry both
     let mut before = Cell::Blank;
     for cell in cells {
         if !follows(before, *cell) {
@@ -55,20 +46,14 @@ fn follows(before: Cell, cell: Cell) -> bool
 fn has_tail(cell: Cell, code: u8, attributes: Attributes) -> bool
     ensures { result ≡ has_tail cell code attributes }
 {
-    match cell {
-        Cell::Character(k, a) => a.wide && k == code && same_attributes(a, attributes),
-        Cell::Blank | Cell::Tail(_, _) => false,
-    }
+    matches!(cell, Cell::Character(k, a) if a.wide && k == code && a == attributes)
 }
 
 /// A wide character, whose tail comes next.
 fn opens_wide(cell: Cell) -> bool
     ensures { result ≡ opens_wide cell }
 {
-    match cell {
-        Cell::Character(_, attributes) => attributes.wide,
-        Cell::Blank | Cell::Tail(_, _) => false,
-    }
+    matches!(cell, Cell::Character(_, attributes) if attributes.wide)
 }
 
 /// A text byte, and no space without underline.
@@ -76,14 +61,4 @@ fn is_visible(code: u8, attributes: Attributes) -> bool
     ensures { result ≡ (is_text code && not (is_invisible code attributes)) }
 {
     is_text(code) && (code != 0x20 || attributes.underlined)
-}
-
-fn same_attributes(a: Attributes, b: Attributes) -> bool
-    ensures { result ≡ same_attributes a b }
-{
-    a.emphasised == b.emphasised
-        && a.tall == b.tall
-        && a.wide == b.wide
-        && a.underlined == b.underlined
-        && a.italic == b.italic
 }

@@ -1,28 +1,27 @@
 //! What string each kind of bar code may have.
 ghost use Rattle.std.specs.Prelude.{◌≡◌, ◌<◌, length};
-ghost use Rattle.job.specs.BarCodes.{is_digit, is_code39, is_code128, is_codabar, is_codabar_end, is_codabar_inner, right_character, right_characters, right_length, verdict};
+ghost use Rattle.job.specs.BarCodes.{is_code39, is_code128, is_codabar, is_codabar_end, is_codabar_inner, right_character, right_characters, right_length, verdict};
 
-use job::bars::{BarKind, Verdict};
+use job::bars::{BarFault, BarKind};
 
 /// First the kind, then the characters, then the length.
-pub fn judge(kind: Option<BarKind>, string: &[u8]) -> Verdict
+pub fn judge(kind: Option<BarKind>, string: &[u8]) -> Result<(), BarFault>
     ensures { result ≡ verdict kind string.now }
 {
-    let Some(kind) = kind else {
-        return Verdict::UnknownKind;
-    };
+    let kind = kind.ok_or(BarFault::UnknownKind)?;
     if !right_characters(kind, string) {
-        Verdict::WrongCharacter
-    } else if !right_length(kind, string.len()) {
-        Verdict::WrongLength
-    } else {
-        Verdict::Accepted
+        return Err(BarFault::WrongCharacter);
     }
+    if !right_length(kind, string.len()) {
+        return Err(BarFault::WrongLength);
+    }
+    Ok(())
 }
 
 fn right_characters(kind: BarKind, string: &[u8]) -> bool
     ensures { result ≡ right_characters kind string.now }
 {
+    // a rule of the station: a loop over the bytes with their index, each against the set of its kind
     for (place, c) in string.iter().enumerate() {
         if !right_character(kind, string.len(), place, *c) {
             return false;
@@ -46,35 +45,20 @@ fn right_character(kind: BarKind, len: usize, place: usize, c: u8) -> bool
         | BarKind::Interleaved2of5
         | BarKind::UpcA
         | BarKind::Msi
-        | BarKind::Code11 => is_digit(c),
-    }
-}
-
-fn is_digit(c: u8) -> bool
-    ensures { result ≡ is_digit c }
-{
-    match c {
-        b'0'..=b'9' => true,
-        _ => false,
+        | BarKind::Code11 => c.is_ascii_digit(),
     }
 }
 
 fn is_code39(c: u8) -> bool
     ensures { result ≡ is_code39 c }
 {
-    match c {
-        b'0'..=b'9' | b'A'..=b'Z' | b'-' | b'.' | b' ' | b'$' | b'/' | b'+' | b'%' => true,
-        _ => false,
-    }
+    matches!(c, b'0'..=b'9' | b'A'..=b'Z' | b'-' | b'.' | b' ' | b'$' | b'/' | b'+' | b'%')
 }
 
 fn is_code128(c: u8) -> bool
     ensures { result ≡ is_code128 c }
 {
-    match c {
-        0x01..=0x7F => true,
-        _ => false,
-    }
+    matches!(c, 0x01..=0x7F)
 }
 
 /// A to D at the first place and the last, other characters between them.
@@ -92,19 +76,13 @@ fn is_codabar(len: usize, place: usize, c: u8) -> bool
 fn is_codabar_end(c: u8) -> bool
     ensures { result ≡ is_codabar_end c }
 {
-    match c {
-        b'A'..=b'D' => true,
-        _ => false,
-    }
+    matches!(c, b'A'..=b'D')
 }
 
 fn is_codabar_inner(c: u8) -> bool
     ensures { result ≡ is_codabar_inner c }
 {
-    match c {
-        b'0'..=b'9' | b'$' | b'-' | b':' | b'/' | b'.' | b'+' => true,
-        _ => false,
-    }
+    matches!(c, b'0'..=b'9' | b'$' | b'-' | b':' | b'/' | b'.' | b'+')
 }
 
 fn right_length(kind: BarKind, len: usize) -> bool
@@ -114,13 +92,13 @@ fn right_length(kind: BarKind, len: usize) -> bool
         BarKind::Ean13 => len == 12,
         BarKind::Ean8 => len == 7,
         BarKind::UpcA => len == 11,
-        BarKind::Interleaved2of5 => 2 <= len && len <= 24 && len % 2 == 0,
-        BarKind::Codabar => 2 <= len && len <= 25,
+        BarKind::Interleaved2of5 => matches!(len, 2..=24) && len % 2 == 0,
+        BarKind::Codabar => matches!(len, 2..=25),
         BarKind::Standard2of5
         | BarKind::Code128
         | BarKind::Code39
         | BarKind::Code93
         | BarKind::Msi
-        | BarKind::Code11 => 1 <= len && len <= 25,
+        | BarKind::Code11 => matches!(len, 1..=25),
     }
 }

@@ -2,6 +2,7 @@
 #![tactic(auto)]
 
 pub mod actions;
+mod advances;
 pub mod bars;
 mod columns;
 pub mod judging;

@@ -7,9 +7,19 @@ ghost use Rattle.job.specs.Invariants.{TextCharacter};
 
 use job::cells::Cell;
 
+/// Why nothing was put into the row.
+#[derive(Clone, Copy, Debug, PartialEq, Eq)]
+pub enum NotPut {
+    /// The code is no text byte.
+    NoText,
+    /// The row has no room for it.
+    NoRoom,
+}
+
 /// The columns before the position: a tail exactly behind each wide character, and only text bytes.
 #[derive(Clone, Copy)]
 pub struct OpenRow {
+    // the columns in place, with their count: a row is kept in fixed memory
     cells: [Cell; 48],
     len: u8,
     ghost sized: { length cells ≡ 48 },

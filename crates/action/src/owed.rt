@@ -1,10 +1,10 @@
 //! What is owed to the mechanism.
 ghost use Rattle.std.specs.Prelude.{◌≡◌, [], ◌∷◌, length, drop, Decides, MatchOption};
-ghost use Rattle.job.specs.NormalText.{flag};
 ghost use Rattle.action.specs.Meanings.{act_of, row_acts, advances_of, other_acts};
 ghost use Rattle.action.specs.Owed.{Owes, owed_acts, owed_row, owed_advances, owed_other};
 
 use crate::actions::{Action, Other};
+use crate::advances::Advances;
 use crate::row::Row;
 use crate::steps::Steps;
 
@@ -12,8 +12,7 @@ use crate::steps::Steps;
 #[derive(Clone, Copy)]
 pub struct Owed {
     row: Option<Row>,
-    advances: u8,
-    steps: Steps,
+    advances: Option<Advances>,
     other: Option<Other>,
 }
 
@@ -24,29 +23,27 @@ impl Owed {
     {
         Owed {
             row: None,
-            advances: 0,
-            steps: Steps::ONE,
+            advances: None,
             other: None,
         }
     }
 
+    /// Whether nothing is owed.
+    #[tactic(auto, using(crate::proofs::Owing::advances_owed))]
     pub fn is_empty(&self) -> bool
         ensures { Decides result (owed_acts self.now ≡ []) }
     {
-        if let Some(_) = self.row {
-            return false;
-        }
-        if self.advances > 0 {
-            return false;
-        }
-        self.other.is_none()
+        self.row.is_none() && self.advances.is_none() && self.other.is_none()
     }
 
     /// How many actions are owed.
     pub fn len(&self) -> usize
         ensures { result ≡ length (owed_acts self.now) }
     {
-        one_if(self.row.is_some()) + (self.advances as usize + one_if(self.other.is_some()))
+        let advances = self
+            .advances
+            .map_or(0, |advances| usize::from(advances.count()));
+        usize::from(self.row.is_some()) + advances + usize::from(self.other.is_some())
     }
 
     /// What is owed first.
@@ -56,23 +53,20 @@ impl Owed {
         if let Some(row) = &self.row {
             return Some(Action::Row(*row));
         }
-        if self.advances > 0 {
-            return Some(Action::Advance(self.steps));
+        if let Some(advances) = self.advances {
+            return Some(Action::Advance(advances.steps()));
         }
-        match self.other {
-            Some(other) => Some(other.to_action()),
-            None => None,
-        }
+        self.other.map(Action::from)
     }
 
     /// What is owed first is owed no more.
     pub fn remove_first(&mut self)
         ensures { owed_acts self.new ≡ drop 1 (owed_acts self.old) }
     {
-        if let Some(_) = self.row {
+        if self.row.is_some() {
             self.row = None;
-        } else if self.advances > 0 {
-            self.advances -= 1;
+        } else if let Some(advances) = self.advances {
+            self.advances = advances.rest();
         } else {
             self.other = None;
         }
@@ -89,13 +83,7 @@ impl Owed {
     pub fn set_advances(&mut self, count: u8, steps: u8)
         ensures { Owes self.new (owed_row self.old) (advances_of count steps) (owed_other self.old) }
     {
-        match Steps::new(steps) {
-            Some(steps) => {
-                self.steps = steps;
-                self.advances = count;
-            }
-            None => self.advances = 0,
-        }
+        self.advances = Steps::new(steps).and_then(|steps| Advances::new(count, steps));
     }
 
     /// Replaces the other action.
@@ -113,11 +101,4 @@ impl Owed {
         self.set_advances(advances, steps);
         self.set_other(other);
     }
-}
-
-/// 1 for something that is there.
-fn one_if(present: bool) -> usize
-    ensures { result ≡ flag present }
-{
-    if present { 1 } else { 0 }
 }

@@ -25,6 +25,7 @@ impl Row {
         }
     }
 
+    /// The columns, from the first to the last.
     pub fn cells(&self) -> &[Cell]
         ensures { result.now ≡ self.now.cells }
     {

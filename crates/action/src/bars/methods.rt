@@ -7,7 +7,7 @@ ghost use Rattle.action.specs.Judging.{Judged, size_in_range};
 
 use crate::bars::{BarSize, Bars};
 use crate::judging::judge;
-use job::bars::{BarKind, Verdict};
+use job::bars::BarKind;
 use reading::Reply;
 
 impl BarSize {
@@ -26,12 +26,10 @@ fn filled_in(parameter: u8, default: u8, low: u8, high: u8) -> Option<u8>
     requires { (low ≤ default) × (default ≤ high) }
     ensures { MatchOption result ((parameter == 0 || between low high parameter) ≡ false) (λ n. ((parameter == 0 || between low high parameter) ≡ true) × (n ≡ or_default default parameter) × (low ≤ n) × (n ≤ high)) }
 {
-    if parameter == 0 {
-        Some(default)
-    } else if low <= parameter && parameter <= high {
-        Some(parameter)
-    } else {
-        None
+    match parameter {
+        0 => Some(default),
+        n if low <= n && n <= high => Some(n),
+        _ => None,
     }
 }
 
@@ -45,40 +43,35 @@ impl Bars {
     ) -> Result<Bars, Reply>
         ensures { Judged (verdict kind string.now) (bars_of kind size.width size.height shown string.now) result }
     {
-        let Some(known) = kind else {
-            return Err(Reply::UnknownKind);
-        };
-        match judge(kind, string) {
-            Verdict::Accepted => Ok(Bars {
-                kind: known,
-                width: size.width,
-                height: size.height,
-                shown,
-                string: copied(string),
-                len: string.len() as u8,
-            }),
-            Verdict::UnknownKind => Err(Reply::UnknownKind),
-            Verdict::WrongCharacter => Err(Reply::WrongCharacter),
-            Verdict::WrongLength => Err(Reply::WrongLength),
-        }
+        judge(kind, string)?;
+        Ok(Bars {
+            kind: kind.unwrap(),
+            size,
+            shown,
+            string: copied(string),
+            len: string.len() as u8,
+        })
     }
 
+    /// The kind of bar code.
     pub fn kind(&self) -> BarKind
         ensures { result ≡ self.now.kind }
     {
         self.kind
     }
 
+    /// How wide its modules are.
     pub fn width(&self) -> u8
-        ensures { result ≡ self.now.width }
+        ensures { result ≡ self.now.size.width }
     {
-        self.width
+        self.size.width
     }
 
+    /// How high it is.
     pub fn height(&self) -> u8
-        ensures { result ≡ self.now.height }
+        ensures { result ≡ self.now.size.height }
     {
-        self.height
+        self.size.height
     }
 
     /// Whether the string is shown below the bars.
@@ -88,6 +81,7 @@ impl Bars {
         self.shown
     }
 
+    /// The characters that it encodes.
     pub fn string(&self) -> &[u8]
         ensures { result.now ≡ take self.now.len self.now.string }
     {

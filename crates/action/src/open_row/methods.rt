@@ -1,32 +1,27 @@
 //! How the row is filled and closed.
-ghost use Rattle.std.specs.Prelude.{◌≡◌, ◌+◌, ◌-◌, ◌<◌, ◌≤◌, min, ◌&&◌, [], ◌∷◌, ◌++◌, length, take, replicate, if◌then◌else◌, nat_le};
+ghost use Rattle.std.specs.Prelude.{◌≡◌, ◌↔◌, ◌+◌, ◌-◌, ◌≤◌, min, false, ◌&&◌, ◌++◌, map, length, take, replicate, is_ok, IsErrOf, IfErr, if◌then◌else◌, nat_le};
 ghost use Rattle.reading.specs.Reading.{is_text};
 ghost use Rattle.reading.specs.Tests.{every};
 ghost use Rattle.job.specs.declared.cells.Cell.TheVariants.{Blank};
-ghost use Rattle.job.specs.Row.{cells_of, closing, is_blank, last_width, width_of};
+ghost use Rattle.job.specs.Row.{cells_of, closed_cell, closing, is_blank, last_width, padded, width_of};
+ghost use Rattle.action.specs.declared.open_row.NotPut.TheVariants.{NoText, NoRoom};
 ghost use Rattle.action.specs.Columns.{columns};
 ghost use Rattle.action.specs.Meanings.{row_acts};
 
-use crate::columns::{all_blank, is_text};
-use crate::open_row::OpenRow;
+use crate::columns::all_blank;
+use crate::open_row::{NotPut, OpenRow};
 use crate::row::Row;
 use job::cells::{Attributes, Cell};
+use reading::is_text;
 
 impl OpenRow {
     /// A row of so many blank columns, at most 48.
     pub fn blanks(count: u8) -> OpenRow
         ensures { columns result ≡ replicate (min count 48) Blank }
     {
-        OpenRow::blank_row(count.min(48))
-    }
-
-    fn blank_row(len: u8) -> OpenRow
-        requires { len ≤ 48 }
-        ensures { columns result ≡ replicate len Blank }
-    {
         OpenRow {
             cells: [Cell::Blank; 48],
-            len,
+            len: count.min(48),
         }
     }
 
@@ -38,44 +33,39 @@ impl OpenRow {
     }
 
     /// Puts a character at the position, unless its code is no text byte or the row has no room for it.
-    pub fn put(&mut self, code: u8, attributes: Attributes) -> bool
-        ensures fits { result ≡ (is_text code && nat_le (length (columns self.old) + width_of attributes) 48) }
-        ensures after { columns self.new ≡ (if result then columns self.old ++ cells_of code attributes else columns self.old) }
+    pub fn put(&mut self, code: u8, attributes: Attributes) -> Result<(), NotPut>
+        ensures fits { is_ok result ≡ (is_text code && nat_le (length (columns self.old) + width_of attributes) 48) }
+        ensures after { columns self.new ≡ (if is_ok result then columns self.old ++ cells_of code attributes else columns self.old) }
+        ensures why { IsErrOf result NoText ↔ (is_text code ≡ false) }
     {
-        if !is_text(code) || self.len + attributes.width() > 48 {
-            return false;
+        if !is_text(code) {
+            return Err(NotPut::NoText);
+        }
+        if self.len + attributes.width() > 48 {
+            return Err(NotPut::NoRoom);
         }
         let at = self.len as usize;
         self.cells[at] = Cell::Character(code, attributes);
         if attributes.wide {
             self.cells[at + 1] = Cell::Tail(code, attributes);
-            self.len += 2;
-        } else {
-            self.len += 1;
         }
-        true
+        self.len += attributes.width();
+        Ok(())
     }
 
     /// Leaves so many columns blank, unless the row has no room for them.
-    pub fn skip(&mut self, count: u8) -> bool
-        ensures fits { result ≡ nat_le (length (columns self.old) + count) 48 }
-        ensures after { columns self.new ≡ (if result then columns self.old ++ replicate count Blank else columns self.old) }
+    pub fn skip(&mut self, count: u8) -> Result<(), NotPut>
+        ensures fits { is_ok result ≡ nat_le (length (columns self.old) + count) 48 }
+        ensures after { columns self.new ≡ (if is_ok result then columns self.old ++ replicate count Blank else columns self.old) }
+        ensures why { IfErr result (λ e. e ≡ NoRoom) }
     {
         if count > 48 - self.len {
-            return false;
+            return Err(NotPut::NoRoom);
         }
-        for _turn in 0..count {
-            self.push_blank();
-        }
-        true
-    }
-
-    fn push_blank(&mut self)
-        requires { self.old.len < 48 }
-        ensures { columns self.new ≡ columns self.old ++ Blank ∷ [] }
-    {
-        self.cells[self.len as usize] = Cell::Blank;
-        self.len += 1;
+        let at = self.len as usize;
+        self.cells[at..at + count as usize].fill(Cell::Blank);
+        self.len += count;
+        Ok(())
     }
 
     /// Takes back the last column, with all of its character.
@@ -120,13 +110,20 @@ impl OpenRow {
     pub fn close(&self) -> Option<Row>
         ensures { row_acts result ≡ closing (columns self.now) }
     {
-        let mut cells = [Cell::Blank; 48];
-        let mut empty = true;
-        for i in 0..self.len as usize {
-            let cell = self.cells[i].closed();
-            cells[i] = cell;
-            empty &= cell.is_blank();
+        let cells = self.closed_cells();
+        if all_blank(&cells) {
+            None
+        } else {
+            Some(Row { cells })
         }
-        if empty { None } else { Some(Row { cells }) }
+    }
+
+    /// All 48 columns as closing leaves them, the unset ones blank.
+    fn closed_cells(&self) -> [Cell; 48]
+        ensures { result ≡ padded (map closed_cell (columns self.now)) }
+    {
+        let mut cells = [Cell::Blank; 48];
+        cells[..self.len as usize].copy_from_slice(self.as_slice());
+        cells.map(Cell::closed)
     }
 }

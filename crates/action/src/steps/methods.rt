@@ -6,8 +6,6 @@ ghost use Rattle.action.specs.Meanings.{advance_acts};
 use crate::steps::Steps;
 
 impl Steps {
-    pub(crate) const ONE: Steps = Steps { count: 1 };
-
     /// An advance of 0 steps is none.
     pub fn new(count: u8) -> Option<Steps>
         ensures { advance_acts result ≡ (if nat_eq count 0 then [] else advance count ∷ []) }
@@ -19,6 +17,7 @@ impl Steps {
         }
     }
 
+    /// How many steps they are.
     pub fn count(self) -> u8
         ensures { result ≡ self.count }
     {

@@ -1,15 +1,11 @@
-use Rattle.std.proofs.Common.{sym, refl, ◌∙◌}
-use Rattle.std.proofs.lemmas.List.{at_drop_all}
-use Rattle.reading.specs.Tests.{every}
+use Rattle.std.proofs.Common.{sym, ◌∙◌, rules, tests}
+use Rattle.std.proofs.lemmas.Iterator.{YieldsList-from_slice}
+use Rattle.std.proofs.lemmas.Iterator.Search.{all_from_yields_List}
 use Rattle.job.specs.Row.{is_blank}
-use Rattle.action.proofs.Lists.{and_more, and_stop}
+use Rattle.job.proofs.Every.{every_all}
 use Rattle.action.proofs.columns.all_blank.Goals as goal
 
-pub loop-cell-preserved : goal.loop-cell-preserved
-loop-cell-preserved c = and_more (every is_blank) (every is_blank) _ _ _ _ c.loop-cell-test.true refl (sym c.is_blank.ensures ∙ c.if-not-is_blank.false) c.loop-cell.invariant
-
-pub returns-then-not-is_blank : goal.returns-then-not-is_blank
-returns-then-not-is_blank c = and_stop (every is_blank) (every is_blank) _ _ _ _ c.loop-cell-test.true refl (sym c.is_blank.ensures ∙ c.if-not-is_blank.true) c.loop-cell.invariant
-
 pub returns : goal.returns
-returns c = sym (at_drop_all (every is_blank) _ _ c.loop-cell-test.false) ∙ c.loop-cell.invariant
+returns c =
+    all_from_yields_List is_blank _ _ c.all.result c.all.ensures.ran (YieldsList-from_slice c.args.cells.now cc) (λ x b q k. search (rules, tests))
+    ∙ sym (every_all is_blank c.args.cells.now)

@@ -1,14 +1,9 @@
-use Rattle.std.proofs.Common.{arith}
-use Rattle.action.proofs.Rows.{closed_more, closed_ordered, closed_ok}
+use Rattle.std.proofs.Common.{sym}
+use Rattle.action.proofs.Rows.{closed_ok, closed_ordered}
 use Rattle.action.proofs.open_row.OpenRow.close.Goals as goal
 
-pub loop-i-preserved : goal.loop-i-preserved
-loop-i-preserved c = closed_more _ _ _ _ _ _ _ (omega arith) c.args.self.now.sized c.loop-i.invariant c.closed-cell.ensures c.is_blank-empty.ensures
-
 pub invariant_of-result : goal.invariant_of-result
-invariant_of-result c =
-    let r = c.args.self.now in
-    record { ok = closed_ok _ r.len _ _ _ (omega arith) r.within r.sized c.loop-i.invariant c.if-empty.false r.laid }
+invariant_of-result c = record { ok = closed_ok c.args.self.now _ c.closed_cells-cells.ensures (sym c.if-all_blank.ensures) }
 
-pub returns-else-empty : goal.returns-else-empty
-returns-else-empty c = closed_ordered _ _ _ _ _ (omega arith) c.args.self.now.within c.args.self.now.sized c.loop-i.invariant c.if-empty.false
+pub returns-else-all_blank : goal.returns-else-all_blank
+returns-else-all_blank c = closed_ordered c.args.self.now _ c.closed_cells-cells.ensures (sym c.if-all_blank.ensures)

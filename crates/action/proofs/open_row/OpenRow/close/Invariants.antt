@@ -1,5 +1,0 @@
-use Rattle.action.proofs.Rows.{Closed}
-use Rattle.action.proofs.open_row.OpenRow.close.Given as goal
-
-abbrev pub invariant-loop-i : goal.invariant-loop-i
-invariant-loop-i l = Closed l.i l.self.cells l.cells l.empty

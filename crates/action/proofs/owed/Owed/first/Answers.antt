@@ -1,5 +1,0 @@
-use Rattle.action.proofs.Advances.{advance_first}
-use Rattle.action.proofs.owed.Owed.first.Goals as goal
-
-pub returns-then-self-gt0 : goal.returns-then-self-gt0
-returns-then-self-gt0 c = advance_first c.args.self.now c.in_default.is c.if-self-gt0.true
