@@ -6,20 +6,6 @@ use mechanism::mechanism::Mechanism;
 use odd_mechanism::odd::OddMechanism;
 use station::station::Station;
 
-/// How many actions are owed.
-fn count_owed<M: Mechanism>(station: &Station<M>) -> u32 {
-    let mut owed = *station.owed();
-    let mut count = 0u32;
-    for _turn in 0..257 {
-        if owed.is_empty() {
-            break;
-        }
-        owed.remove_first();
-        count = count.saturating_add(1);
-    }
-    count
-}
-
 /// Feeds a piece, and prints what came of it.
 fn feed<M: Mechanism>(
     rt: &HostRuntime,
@@ -28,11 +14,8 @@ fn feed<M: Mechanism>(
     piece: &[u8],
 ) -> anyhow::Result<()> {
     let (taken, outcome) = station.feed(piece);
-    let number = match outcome {
-        Ok(()) => 0,
-        Err(fault) => fault.number(),
-    };
-    let owed = count_owed(station);
+    let number = outcome.err().map_or(0, |fault| fault.number());
+    let owed = station.owed().len();
     println!(rt; "{name}: {taken} taken, refusal {number}, {owed} owed")?;
     Ok(())
 }
