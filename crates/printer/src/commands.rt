@@ -20,6 +20,8 @@ impl Printer {
         self.obey(command, owed)
     }
 
+    /// What is ordered is written where it is owed: in a result it would be copied at every byte.
+    // `owed` has no type of its own for nothing owed: that fact would have to hold again where the loan ends.
     fn obey(&mut self, command: Command, owed: &mut Owed) -> Result<(), Refusal>
         ensures { CarriesAlone (command_of command) self.old owed.old result owed.new self.new }
     {
@@ -37,20 +39,20 @@ impl Printer {
             Command::Delete => self.delete(),
             Command::AttributesOff => self.attributes_off(),
             Command::SetEmphasised(on) => self.set_emphasised(on),
-            Command::SetOneLineWidth(on) => self.set_one_line_width(on),
+            Command::SetOneLineWidth(on) => self.settings.set_one_line_width(on),
             Command::SetExpanded(n) => self.switch_attribute(n, |a, on| a.wide = on)?,
             Command::SetDoubleHeight(n) => self.switch_attribute(n, |a, on| a.tall = on)?,
             Command::SetUnderline(n) => self.switch_attribute(n, |a, on| a.underlined = on)?,
             Command::SetItalic(n) => self.switch_attribute(n, |a, on| a.italic = on)?,
             Command::SetPrintMode(n) => self.set_print_mode(n),
-            Command::SetSpacing(n) => self.set_spacing(n),
+            Command::SetSpacing(n) => self.settings.set_spacing(n),
             Command::FeedSteps(n) => self.feed_steps(n, owed),
             Command::Repeat(what, n) => self.repeat(what, n, owed)?,
-            Command::SetPageLength(n) => self.set_page_length(n)?,
-            Command::SetVerticalStops(stops) => self.set_vertical_stops(stops)?,
-            Command::SetHorizontalStops(stops) => self.set_horizontal_stops(stops)?,
+            Command::SetPageLength(n) => self.settings.set_page_length(n)?,
+            Command::SetVerticalStops(stops) => self.settings.set_vertical_stops(stops)?,
+            Command::SetHorizontalStops(stops) => self.settings.set_horizontal_stops(stops)?,
             Command::SetLeftMargin(n) => self.set_left_margin(n)?,
-            Command::SetRightMargin(n) => self.set_right_margin(n)?,
+            Command::SetRightMargin(n) => self.settings.set_right_margin(n)?,
             Command::Cut => self.cut(owed),
             Command::BarCode(parameters, string) => self.bar_code(parameters, string, owed)?,
             Command::Configure(replies, body) => self.configure(replies, body, owed)?,
@@ -64,6 +66,7 @@ impl Printer {
 fn clear(owed: &mut Owed)
     ensures { owed_acts owed.new ≡ [] }
 {
+    // What is empty stays as it is: to write it would copy room for a row at every byte.
     if !owed.is_empty() {
         owed.set(None, 0, 0, None);
     }

@@ -1,5 +1,5 @@
 //! Characters that wrap, line feeds and advances.
-ghost use Rattle.std.specs.Prelude.{◌≡◌, ◌<◌, true, [], ◌++◌};
+ghost use Rattle.std.specs.Prelude.{◌≡◌, ◌<◌, true, ◌++◌};
 ghost use Rattle.reading.specs.Commands.{feed_steps, form_feed, repeat, vertical_tab};
 ghost use Rattle.job.specs.Commands.{effect};
 ghost use Rattle.job.specs.Effects.{times};
@@ -87,16 +87,11 @@ impl Printer {
         ensures { CarriesAlone (repeat what n) self.old owed.old result owed.new self.new }
     {
         match (what, n) {
-            (0, 0..=127) => {
-                self.spaces(n, owed);
-                Ok(())
-            }
-            (1, 0..=127) => {
-                self.line_feeds(n, owed);
-                Ok(())
-            }
-            _ => Err(Refusal::OutOfRange),
+            (0, 0..=127) => self.spaces(n, owed),
+            (1, 0..=127) => self.line_feeds(n, owed),
+            _ => return Err(Refusal::OutOfRange),
         }
+        Ok(())
     }
 
     /// So many spaces that are not underlined: at most one row is closed, and equal advances follow.
@@ -112,6 +107,7 @@ impl Printer {
     }
 
     /// Puts a space that is not underlined. A line feed that comes first is counted; the row that the first one closes is kept.
+    // The caller keeps the row: in a result it would be copied at every space.
     fn put_space(&mut self, row: &mut Option<Row>, feeds: u8) -> u8
         requires { feeds < 255 }
         ensures { SpacePut (printer_of self.old) (row_acts row.old) feeds (printer_of self.new) (row_acts row.new) result }

@@ -1,9 +1,8 @@
 //! Commands that order a cut, bars or a reply.
-ghost use Rattle.std.specs.Prelude.{◌≡◌, [], ◌∷◌, if◌then◌else◌};
+ghost use Rattle.std.specs.Prelude.{◌≡◌, [], ◌∷◌};
 ghost use Rattle.reading.specs.Commands.{bar_code, configure, cut};
-ghost use Rattle.job.specs.Actions.{partial_cut, total_cut};
 ghost use Rattle.job.specs.Commands.{effect};
-ghost use Rattle.action.specs.Meanings.{cut_act, other_act};
+ghost use Rattle.action.specs.Meanings.{other_act};
 ghost use Rattle.action.specs.Owed.{owed_acts};
 ghost use Rattle.reader.specs.Commands.{parameters_of};
 ghost use Rattle.short.specs.Short.{listed};

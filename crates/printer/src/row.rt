@@ -53,11 +53,10 @@ impl Printer {
         ensures { printer_of self.new ≡ tabbed (printer_of self.old) }
     {
         let position = self.row.len() + 1;
-        match self.settings.stop_beyond(position) {
-            Some(column) if column <= u16::from(self.settings.margins().right) => {
-                let _ = self.row.skip(column as u8 - position);
-            }
-            _ => {}
+        if let Some(column) = self.settings.stop_beyond(position)
+            && column <= u16::from(self.settings.margins().right)
+        {
+            let _ = self.row.skip(column as u8 - position);
         }
     }
 

@@ -1,17 +1,15 @@
 //! Commands that change a setting.
 ghost use Rattle.std.specs.Prelude.{◌≡◌, ◌<◌, true, false, [], MatchResult, ◌==◌, nat_le};
 ghost use Rattle.reading.specs.declared.Refusal.TheVariants.{OutOfRange};
-ghost use Rattle.reading.specs.Commands.{set_horizontal_stops, set_left_margin, set_page_length, set_right_margin, set_vertical_stops};
+ghost use Rattle.reading.specs.Commands.{set_left_margin};
 ghost use Rattle.job.specs.Actions.{plain};
-ghost use Rattle.job.specs.Changes.{bit, emphasise, print_mode, space_lines};
-ghost use Rattle.job.specs.Printer.{change, change_attributes, change_paper, reset_printer, with_attributes, with_one_line_width};
-ghost use Rattle.short.specs.Short.{listed};
+ghost use Rattle.job.specs.Changes.{bit, emphasise, print_mode};
+ghost use Rattle.job.specs.Printer.{change, change_attributes, reset_printer, with_attributes, with_one_line_width};
 ghost use Rattle.printer.specs.Printer.{Carries, Switches, printer_of};
 
 use crate::Printer;
 use job::cells::Attributes;
 use reading::Refusal;
-use short::Short;
 
 impl Printer {
     /// All five attributes and one-line width off.
@@ -29,12 +27,6 @@ impl Printer {
             emphasised: on,
             ..self.settings.attributes()
         });
-    }
-
-    pub(crate) fn set_one_line_width(&mut self, on: bool)
-        ensures { printer_of self.new ≡ change (with_one_line_width on) (printer_of self.old) }
-    {
-        self.settings.set_one_line_width(on);
     }
 
     /// Switches an attribute off or on by a parameter of 0 or 1.
@@ -66,30 +58,6 @@ impl Printer {
         });
     }
 
-    pub(crate) fn set_spacing(&mut self, n: u8)
-        ensures { printer_of self.new ≡ change_paper (space_lines n) (printer_of self.old) }
-    {
-        self.settings.set_spacing(n);
-    }
-
-    pub(crate) fn set_page_length(&mut self, n: u8) -> Result<(), Refusal>
-        ensures { Carries (set_page_length n) self.old result [] self.new }
-    {
-        self.settings.set_page_length(n)
-    }
-
-    pub(crate) fn set_vertical_stops(&mut self, stops: Short<16>) -> Result<(), Refusal>
-        ensures { Carries (set_vertical_stops (listed stops)) self.old result [] self.new }
-    {
-        self.settings.set_vertical_stops(stops)
-    }
-
-    pub(crate) fn set_horizontal_stops(&mut self, stops: Short<8>) -> Result<(), Refusal>
-        ensures { Carries (set_horizontal_stops (listed stops)) self.old result [] self.new }
-    {
-        self.settings.set_horizontal_stops(stops)
-    }
-
     /// A new left margin moves the position only if no column is set and the position was the old left margin.
     pub(crate) fn set_left_margin(&mut self, n: u8) -> Result<(), Refusal>
         ensures { Carries (set_left_margin n) self.old result [] self.new }
@@ -100,12 +68,6 @@ impl Printer {
             self.row.clear(n - 1);
         }
         Ok(())
-    }
-
-    pub(crate) fn set_right_margin(&mut self, n: u8) -> Result<(), Refusal>
-        ensures { Carries (set_right_margin n) self.old result [] self.new }
-    {
-        self.settings.set_right_margin(n)
     }
 
     /// Cancels the row and resets all but spacing, page, line number and cutter.

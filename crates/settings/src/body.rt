@@ -1,5 +1,5 @@
 //! The body of a configuration: 40 bytes, counted from 0.
-ghost use Rattle.std.specs.Prelude.{◌≡◌, ◌-◌, ◌≤◌, true, false, ◌⊎◌, [], ◌∷◌, MatchOption, ◌==◌};
+ghost use Rattle.std.specs.Prelude.{◌≡◌, ◌-◌, true, false, [], ◌∷◌, MatchOption, ◌==◌};
 ghost use Rattle.reading.specs.Tests.{one_of};
 ghost use Rattle.job.specs.BarCodes.{is_digit};
 ghost use Rattle.settings.specs.Body.{BodyRead};

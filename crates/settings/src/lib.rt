@@ -1,7 +1,7 @@
 //! The printer's settings, always within their bounds.
 #![tactic(auto)]
 
-ghost use Rattle.std.specs.Prelude.{◌≡◌, ◌+◌, ◌<◌, ◌≤◌};
+ghost use Rattle.std.specs.Prelude.{◌+◌, ◌<◌, ◌≤◌};
 
 pub mod body;
 mod getters;
@@ -12,7 +12,7 @@ use job::cells::Attributes;
 use job::settings::{Cutter, Margins, Paper};
 use stops::{HorizontalStops, VerticalStops};
 
-/// What commands set.
+/// What commands set. Its bounds belong to the struct, so rows and tabulation need no test of them.
 #[derive(Clone, Copy)]
 pub struct Settings {
     attributes: Attributes,

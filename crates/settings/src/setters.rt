@@ -1,5 +1,5 @@
 //! How the settings change.
-ghost use Rattle.std.specs.Prelude.{◌≡◌, ◌+◌, ◌&&◌, [], ◌∷◌, true, false, nat_lt, MatchResult};
+ghost use Rattle.std.specs.Prelude.{◌≡◌, ◌+◌, ◌&&◌, true, false, nat_lt, MatchResult};
 ghost use Rattle.reading.specs.Tests.{between};
 ghost use Rattle.reading.specs.declared.Refusal.TheVariants.{OutOfRange};
 ghost use Rattle.job.specs.Changes.{page_of, right_margin_at, space_lines};
