@@ -1,6 +1,6 @@
 -- A report, byte by byte.
-use Rattle.std.proofs.Common.{◌≡◌, ℕ, ◌+◌, ◌<◌, ◌≤◌, List, [], ◌∷◌, ◌++◌, length, get_or, take, sym, refl, ap, ◌∙◌, subst, append_assoc, append-nil, arith}
-use Rattle.std.proofs.lemmas.List.{take_more, take_all, length-take-le}
+use Rattle.std.proofs.Common.{◌≡◌, ℕ, ◌+◌, ◌<◌, List, [], ◌∷◌, ◌++◌, length, get_or, take, sym, refl, ap, ◌∙◌, append_assoc, append-nil, arith}
+use Rattle.std.proofs.lemmas.List.{take_more, length-take-le}
 use Rattle.job.specs.Actions.{Act}
 use Rattle.job.specs.Job.{State, Run, Refused, later, run_byte, followed_by, run, new}
 use Rattle.job.proofs.Runs.{run_append}
@@ -44,6 +44,3 @@ module _ (s : List ℕ) (i : ℕ) (h : i < length s) (p q : Interpreter) (lines 
 
   pub state_more : state_of q ≡ (run new (take (i + 1) s)).state
   state_more = a.state ∙ ap (λ (x : Run). x.state) (sym next)
-
-pub reports_all : (s : List ℕ) (i : ℕ) (lines : List ℕ) (refused : List RefusedCommand) → length s ≤ i → Reports (take i s) lines refused → Reports s lines refused
-reports_all s i lines refused h r = let P : List ℕ → Type 0 = λ l. Reports l lines refused in subst P (take_all i s h) r

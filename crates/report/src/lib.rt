@@ -6,4 +6,4 @@ mod lines;
 pub mod reporting;
 pub mod whole_text;
 
-pub use fault::{ReportFault, TextFault};
+pub use fault::TextFault;

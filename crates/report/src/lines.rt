@@ -6,7 +6,6 @@ ghost use Rattle.report.specs.Reports.{action_line};
 use action::actions::Action;
 use action_text::writing::write_action;
 use hexadecimal::encode;
-use mechanism::buffers::front;
 use std::alloc::AllocError;
 
 /// As much as the longest action's text could take.
@@ -17,11 +16,7 @@ pub fn add_line(lines: &mut Vec<u8>, action: &Action) -> Result<(), AllocError>
     ensures { MatchResult result (λ _. lines.new.items ≡ lines.old.items ++ action_line (act_of action.now)) (λ _. Unit) }
 {
     let mut text = [0; TEXT_MAX];
-    let length = match write_action(&mut text, action) {
-        Some(length) => length,
-        None => unreachable(),
-    };
-    encode(lines, front(&text, length))?;
-    lines.extend_from_slice(b"\n")?;
-    Ok(())
+    let length = write_action(&mut text, action).unwrap();
+    encode(lines, &text[..length])?;
+    lines.extend_from_slice(b"\n")
 }

@@ -2,39 +2,11 @@
 ghost use Rattle.std.specs.Prelude.{◌≡◌, ◌<◌, [], ◌++◌, map, length, MatchResult};
 ghost use Rattle.interpreter.specs.Interpreter.{Takes, owes};
 ghost use Rattle.report.specs.Reports.{AddsByte, AddsOwed, Reports, refused_list, refused_of};
-ghost use Rattle.report.specs.declared.fault.ReportFault.TheVariants.{OutOfMemory};
 
-use crate::fault::ReportFault;
 use crate::lines::add_line;
 use interpreter::{Interpreter, Taken};
 use runs::fault::RefusedCommand;
-use std::alloc::{AllocError, AllocFailed, Global};
-use std::error::Error;
-use std::fmt;
-
-impl fmt::Display for ReportFault {
-    fn fmt<W: fmt::Write>(&self, f: &mut fmt::Formatter<W>) -> fmt::Result {
-        f.write_str("there is no memory for the report")
-    }
-}
-
-impl Error for ReportFault {}
-
-impl From<AllocError> for ReportFault {
-    ghost from_gives = { λ _ r. r ≡ OutOfMemory };
-
-    fn from(_fault: AllocError) -> ReportFault {
-        ReportFault::OutOfMemory
-    }
-}
-
-impl<T: Drop> From<AllocFailed<T>> for ReportFault {
-    ghost from_gives = { λ _ r. r ≡ OutOfMemory };
-
-    fn from(_refused: AllocFailed<T>) -> ReportFault {
-        ReportFault::OutOfMemory
-    }
-}
+use std::alloc::{AllocError, Global};
 
 /// The lines of a job's actions, and the refused commands with their numbers and places.
 #[derive(Drop)]
@@ -44,7 +16,7 @@ pub struct Report {
 }
 
 /// Adds the lines of all actions owed; nothing is owed then.
-fn add_owed(lines: &mut Vec<u8>, interpreter: &mut Interpreter) -> Result<(), ReportFault>
+fn add_owed(lines: &mut Vec<u8>, interpreter: &mut Interpreter) -> Result<(), AllocError>
     ensures { MatchResult result (λ _. AddsOwed interpreter.old lines.old.items interpreter.new lines.new.items) (λ _. Unit) }
 {
     while let Some(action) = interpreter.owed().first() {
@@ -74,7 +46,7 @@ fn take_byte(interpreter: &mut Interpreter, stream: &[u8], index: usize) -> Opti
 fn add_refused(
     refused: &mut Vec<RefusedCommand>,
     command: Option<RefusedCommand>,
-) -> Result<(), ReportFault>
+) -> Result<(), AllocError>
     ensures { MatchResult result (λ _. map refused_of refused.new.items ≡ map refused_of refused.old.items ++ refused_list command) (λ _. Unit) }
 {
     if let Some(command) = command {
@@ -89,18 +61,17 @@ fn add_byte(
     interpreter: &mut Interpreter,
     stream: &[u8],
     index: usize,
-) -> Result<(), ReportFault>
+) -> Result<(), AllocError>
     requires { (owes interpreter.old ≡ []) × (index < length stream.now) }
     ensures { MatchResult result (λ _. AddsByte stream.now index interpreter.old report.old.lines.items report.old.refused.items interpreter.new report.new.lines.items report.new.refused.items) (λ _. Unit) }
 {
     let command = take_byte(interpreter, stream, index);
     add_refused(&mut report.refused, command)?;
-    add_owed(&mut report.lines, interpreter)?;
-    Ok(())
+    add_owed(&mut report.lines, interpreter)
 }
 
 /// The report of a stream of any length.
-pub fn make_report(heap: Global, stream: &[u8]) -> Result<Report, ReportFault>
+pub fn make_report(heap: Global, stream: &[u8]) -> Result<Report, AllocError>
     ensures { MatchResult result (λ x. Reports stream.now x.lines.items x.refused.items) (λ _. Unit) }
 {
     let mut interpreter = Interpreter::new();
@@ -108,6 +79,7 @@ pub fn make_report(heap: Global, stream: &[u8]) -> Result<Report, ReportFault>
         lines: Vec::new(heap),
         refused: Vec::new(heap),
     };
+    // By index: a step takes the stream and an index, so that the places it tells count from the stream's start.
     for index in 0..stream.len() {
         add_byte(&mut made, &mut interpreter, stream, index)?;
     }

@@ -7,26 +7,9 @@ ghost use Rattle.report.specs.declared.fault.TextFault.TheVariants.{OutOfMemory 
 use crate::fault::TextFault;
 use normal::normalise::normalise;
 use std::alloc::{AllocError, Global};
-use std::error::Error;
-use std::fmt;
 use stream::STREAM_MAX;
 
-impl fmt::Display for TextFault {
-    fn fmt<W: fmt::Write>(&self, f: &mut fmt::Formatter<W>) -> fmt::Result {
-        match self {
-            TextFault::StreamTooLong => f.write_str(
-                "refusal 6: the stream has more than 65536 bytes",
-            ),
-            TextFault::TextTooLong => f.write_str(
-                "refusal 5: the normal text has more than 64 MiB",
-            ),
-            TextFault::OutOfMemory => f.write_str("there is no memory for the normal text"),
-        }
-    }
-}
-
-impl Error for TextFault {}
-
+// By hand: a derived From has no contract, and a clause names the fault.
 impl From<AllocError> for TextFault {
     ghost from_gives = { λ _ r. r ≡ NoMemory };
 
@@ -63,8 +46,5 @@ pub fn whole_text(heap: Global, stream: &[u8]) -> Result<Vec<u8>, TextFault>
             return Ok(text);
         }
     }
-    match text_within(heap, stream, TEXT_MAX)? {
-        Some(text) => Ok(text),
-        None => Err(TextFault::TextTooLong),
-    }
+    text_within(heap, stream, TEXT_MAX)?.ok_or(TextFault::TextTooLong)
 }

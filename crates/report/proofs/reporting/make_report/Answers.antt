@@ -1,5 +1,5 @@
-use Rattle.report.proofs.Bytewise.{reports_more, state_more, reports_all}
-use Rattle.std.proofs.Common.{vec_items, arith}
+use Rattle.report.proofs.Bytewise.{reports_more, state_more}
+use Rattle.std.proofs.Common.{vec_items}
 use Rattle.report.proofs.reporting.make_report.Goals as goal
 
 pub loop-index-preserved : goal.loop-index-preserved
@@ -15,6 +15,3 @@ loop-index-preserved c =
       state_more s i c.loop-index-test.true p q (vec_items old.lines) (vec_items new.lines) (vec_items old.refused) (vec_items new.refused) c.loop-index.invariant.0 c.loop-index.invariant.1 added,
       added.nothing_owed,
     )
-
-pub returns : goal.returns
-returns c = reports_all c.args.stream.now c.loop-index.index _ _ (omega arith) c.loop-index.invariant.0
