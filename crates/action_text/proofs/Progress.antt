@@ -1,40 +1,48 @@
 -- A text that is being written.
-use Rattle.std.proofs.Common.{◌≡◌, ℕ, ◌+◌, ◌≤◌, List, ◌++◌, length, take, drop, sym, refl, ap, ◌∙◌, append_assoc, arith, length-append}
-use Rattle.std.proofs.lemmas.List.{length-take-le}
-use Rattle.mechanism.specs.Buffers.{Appended}
-use Rattle.mechanism.proofs.Appending.{same_further}
+use Rattle.std.proofs.Common.{◌≡◌, ℕ, ◌≤◌, List, [], ◌++◌, length, take, sym, refl, ap, ◌∙◌, append_assoc, append-nil, arith, length-append}
+use Rattle.mechanism.proofs.Appending as appending
+use Rattle.action_text.specs.declared.pen.Pen.{Pen}
+use Rattle.action_text.specs.Pens.{left, Wrote}
 
--- of the whole text, what is left is to come
-pub record Progress (found whole : List ℕ) (at : ℕ) (out left : List ℕ) : Type 0 where
-  pub joins : take at out ++ left ≡ whole
-  pub rest : drop at out ≡ drop at found
-  pub within : at ≤ length out
+pub next : {p q r : Pen} {s t : List ℕ} → Wrote p s q → Wrote q t r → Wrote p (s ++ t) r
+next a b = record {
+  writes = appending.next a.writes b.writes;
+  same_length = b.same_length ∙ a.same_length;
+  same_buffer = b.same_buffer ∙ a.same_buffer;
+}
 
-pub start : (found whole : List ℕ) → Progress found whole 0 found whole
-start found whole = record { joins = refl; rest = refl; within = omega arith }
+-- the same bytes, said otherwise
+pub spelt : {p q : Pen} {s t : List ℕ} → s ≡ t → Wrote p s q → Wrote p t q
+spelt e a = record { writes = appending.spelt e a.writes; same_length = a.same_length; same_buffer = a.same_buffer }
 
-module _ {found whole out left : List ℕ} {at : ℕ} (p : Progress found whole at out left) (t more : List ℕ) (e : left ≡ t ++ more) where
-  sizes : at + (length t + length more) ≡ length whole
-  sizes = omega (arith, length-take-le at out p.within, length-append (take at out) left, length-append t more, ap length e, ap length p.joins)
+pub nothing : (p : Pen) → Wrote p [] p
+nothing p = record {
+  writes = record { ends = omega arith; front = sym (append-nil (take p.at p.out.now)); rest = refl };
+  same_length = refl;
+  same_buffer = refl;
+}
 
+-- of the whole text, some is done, and some is to come
+pub record Progress (p : Pen) (whole : List ℕ) (q : Pen) (coming : List ℕ) : Type 0 where
+  pub done : List ℕ
+  pub wrote : Wrote p done q
+  pub joins : done ++ coming ≡ whole
+
+pub start : (p : Pen) (whole : List ℕ) → Progress p whole p whole
+start p whole = record { done = []; wrote = nothing p; joins = refl }
+
+module _ {p q : Pen} {whole coming : List ℕ} (f : Progress p whole q coming) (t more : List ℕ) (e : coming ≡ t ++ more) where
   -- there is room for what comes next
-  pub room : length whole ≤ length out → at + length t ≤ length out
-  room h = omega (arith, sizes)
+  pub room : length whole ≤ left p → length t ≤ left q
+  room h = omega (arith, f.wrote.writes.ends, f.wrote.same_length, length-append f.done coming, length-append t more, ap length e, ap length f.joins)
 
   -- and it is written
-  pub onward : {after : List ℕ} {end : ℕ} → Appended out at t end after → length after ≡ length out → length whole ≤ length out → Progress found whole end after more
-  onward {after} {end} a l h = record {
-    joins = ap (λ x. x ++ more) a.front ∙ append_assoc (take at out) t more ∙ ap (λ x. take at out ++ x) (sym e) ∙ p.joins;
-    rest = a.rest ∙ same_further at end out found (omega (arith, a.ends)) p.rest;
-    within = omega (arith, a.ends, sizes);
+  pub onward : {r : Pen} → Wrote q t r → Progress p whole r more
+  onward w = record {
+    done = f.done ++ t;
+    wrote = next f.wrote w;
+    joins = append_assoc f.done t more ∙ ap (λ l. f.done ++ l) (sym e) ∙ f.joins;
   }
 
-pub spelling : {found whole out left t : List ℕ} {at : ℕ} → Progress found whole at out left → left ≡ t → Progress found whole at out t
-spelling {found} {whole} {out} {left} {t} {at} p e = record { joins = ap (λ x. take at out ++ x) (sym e) ∙ p.joins; rest = p.rest; within = p.within }
-
-pub finished : {found whole out t after : List ℕ} {at end : ℕ} → Progress found whole at out t → Appended out at t end after → Appended found 0 whole end after
-finished {found} {whole} {out} {t} {after} {at} {end} p a = record {
-  ends = omega (arith, a.ends, length-take-le at out p.within, length-append (take at out) t, ap length p.joins);
-  front = a.front ∙ p.joins;
-  rest = a.rest ∙ same_further at end out found (omega (arith, a.ends)) p.rest;
-}
+pub finished : {p q r : Pen} {whole t coming : List ℕ} → Progress p whole q coming → coming ≡ t → Wrote q t r → Wrote p whole r
+finished f e w = spelt (ap (λ l. f.done ++ l) (sym e) ∙ f.joins) (next f.wrote w)

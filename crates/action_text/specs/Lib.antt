@@ -1,2 +1,3 @@
 pub mod RowTexts
 pub mod Needs
+pub mod Pens

@@ -1,9 +1,9 @@
 -- How much room an action's text needs.
-use Rattle.std.specs.Prelude.{◌≡◌, ℕ, ◌<◌, ◌≤◌, List, length, Some, None, Option}
+use Rattle.std.specs.Prelude.{ℕ, ◌≤◌, List, length, Option}
 use Rattle.job.specs.Actions.{Act, row, advance, bars, total_cut, partial_cut, pulse, beep, reply}
 use Rattle.job.specs.NormalText.{action_text, reply_text}
 use Rattle.job.specs.Orderable.{Orderable}
-use Rattle.mechanism.specs.Buffers.{Appended}
+use Rattle.mechanism.specs.Buffers as buffers
 
 -- a row needs 345, all else the length of its text
 abbrev pub text_need : Act → ℕ
@@ -40,5 +40,4 @@ TextsFit = (a : Act) → Orderable a → TextFits a
 -- what writing an action into a buffer answers: nothing, and the buffer as it was, exactly where there is less room than it needs,
 -- else the length of its text, which then stands at the buffer's front, with the rest as found
 abbrev pub Writes : List ℕ → Act → Option ℕ → List ℕ → Type 0
-Writes found a None out = (length found < text_need a) × (out ≡ found)
-Writes found a (Some n) out = (text_need a ≤ length found) × Appended found 0 (action_text a) n out
+Writes found a n out = buffers.Writes (text_need a) (action_text a) found n out

@@ -3,6 +3,6 @@
 
 mod fixed_texts;
 pub mod needs;
-mod put;
+mod pen;
 mod row_text;
 pub mod writing;

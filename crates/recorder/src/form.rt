@@ -2,7 +2,8 @@
 ghost use Rattle.std.specs.Prelude.{◌≡◌, ℕ, List};
 ghost use Rattle.job.specs.Actions.{Act};
 ghost use Rattle.action.specs.Meanings.{act_of};
-ghost use Rattle.recorder.specs.Forms.{FormLaws, Writes};
+ghost use Rattle.mechanism.specs.Buffers.{Writes};
+ghost use Rattle.recorder.specs.Forms.{FormLaws};
 
 use action::actions::Action;
 
@@ -26,5 +27,5 @@ pub trait Form {
 
     /// Writes an action's bytes, at an advance count, at the front of a buffer and answers how many they are, or nothing if there is less room than the action needs.
     fn write(out: &mut [u8], advance: u32, action: &Action) -> Option<usize>
-        ensures { Writes need bytes out.old advance (act_of action.now) result out.new };
+        ensures { Writes (need (act_of action.now)) (bytes advance (act_of action.now)) out.old result out.new };
 }

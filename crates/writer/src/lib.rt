@@ -1,5 +1,4 @@
 //! The text writer: the mechanism that writes each action's normal text into a buffer.
 #![tactic(auto)]
 
-mod appending;
 pub mod writer;

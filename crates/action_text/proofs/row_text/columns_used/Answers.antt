@@ -1,21 +1,19 @@
-use Rattle.std.proofs.Common.{length, sym, ap, ◌∙◌, arith}
-use Rattle.std.proofs.lemmas.List.{take_all}
-use Rattle.job.specs.NormalText.{up_to_last}
-use Rattle.action_text.proofs.Columns.{fewer, enough}
+use Rattle.std.proofs.Common.{◌≡◌, ◌-◌, length, take, ap, ◌∙◌, rules}
+use Rattle.std.proofs.lemmas.Iterator.Adapters.{YieldsList-from_rev_slice}
+use Rattle.std.proofs.lemmas.Iterator.Consumers.{count_from_yields_List}
+use Rattle.std.proofs.lemmas.Iterator.Search.{YieldsList-from_take_while}
+use Rattle.std.proofs.lemmas.List.Folds.{length-prefix_len}
+use Rattle.std.specs.List.{suffix_len}
+use mathlib.Core.List.{reverse}
+use Rattle.job.specs.Row.{is_blank}
+use Rattle.action_text.proofs.Columns.{trimmed}
 use Rattle.action_text.proofs.row_text.columns_used.Goals as goal
 
-pub loop-n-init : goal.loop-n-init
-loop-n-init c =
+pub returns-clause-value : goal.returns-clause-value
+returns-clause-value c =
     let cells = c.args.cells.now in
-    (ap up_to_last (take_all (length cells) cells (omega arith)), omega arith)
-
-pub loop-n-preserved : goal.loop-n-preserved
-loop-n-preserved c =
-    (fewer c.args.cells.now c.loop-n.n c.loop-n-test.true c.loop-n.invariant.1 (sym c.if-is_blank.ensures) ∙ c.loop-n.invariant.0, omega (arith, c.loop-n.invariant.1))
-
-pub returns-else-is_blank : goal.returns-else-is_blank
-returns-else-is_blank c =
-    record {
-      value = sym (enough c.args.cells.now c.loop-n.n c.loop-n-test.true c.loop-n.invariant.1 (sym c.if-is_blank.ensures)) ∙ c.loop-n.invariant.0;
-      within = c.loop-n.invariant.1;
-    }
+    let count =
+    count_from_yields_List c.take_while.result c.count.result c.count.ensures.ran
+    (YieldsList-from_take_while _ is_blank (YieldsList-from_rev_slice cells cc) c.take_while.ensures.closure c.take_while.ensures.done (λ x b q k. search rules)) in
+    let blank : c.count.result ≡ suffix_len is_blank cells = count ∙ length-prefix_len is_blank (reverse cells) in
+    ap (λ n. take (length cells - n) cells) blank ∙ trimmed cells

@@ -6,9 +6,9 @@ use Rattle.job.specs.declared.cells.Cell.TheVariants.{Blank}
 use Rattle.job.specs.Actions.{plain}
 use Rattle.job.specs.NormalText.{attribute_change, cells_text}
 use Rattle.action_text.specs.RowTexts.{cell_text, attributes_after}
-use Rattle.action_text.proofs.Progress.{start, room, onward, spelling, finished}
+use Rattle.action_text.proofs.Progress.{start, room, onward, finished}
 use Rattle.action_text.proofs.Columns.{one_column}
-use Rattle.action_text.proofs.row_text.put_cells.Goals as goal
+use Rattle.action_text.proofs.pen.Pen.put_cells.Goals as goal
 
 pub loop-cell-init : goal.loop-cell-init
 loop-cell-init c = start _ _
@@ -18,16 +18,16 @@ first : (a : Attributes) (cells : List Cell) (i : ℕ) → i < length cells
     → cells_text a (drop i cells) ≡ cell_text a (get_or cells i Blank) ++ cells_text (attributes_after a (get_or cells i Blank)) (drop (i + 1) cells)
 first a cells i h = at_drop_more (cells_text a) cells i Blank h ∙ one_column a (get_or cells i Blank) (drop (i + 1) cells)
 
-pub put_cell-end-requires : goal.put_cell-end-requires
-put_cell-end-requires c =
+pub put_cell-in_force-requires : goal.put_cell-in_force-requires
+put_cell-in_force-requires c =
     room c.loop-cell.invariant _ _ (first c.loop-cell.in_force c.args.cells.now c.loop-cell.cell-index c.loop-cell-test.true) (omega arith)
 
 pub loop-cell-preserved : goal.loop-cell-preserved
 loop-cell-preserved c =
     onward c.loop-cell.invariant _ _
     (first c.loop-cell.in_force c.args.cells.now c.loop-cell.cell-index c.loop-cell-test.true
-    ∙ ap (λ a. cell_text c.loop-cell.in_force (get_or c.args.cells.now c.loop-cell.cell-index Blank) ++ cells_text a (drop (c.loop-cell.cell-index + 1) c.args.cells.now)) (sym c.put_cell-end.ensures.attributes))
-    c.put_cell-end.ensures.text c.put_cell-end.auto.out (omega arith)
+    ∙ ap (λ a. cell_text c.loop-cell.in_force (get_or c.args.cells.now c.loop-cell.cell-index Blank) ++ cells_text a (drop (c.loop-cell.cell-index + 1) c.args.cells.now)) (sym c.put_cell-in_force.ensures.attributes))
+    c.put_cell-in_force.ensures.text
 
 -- at the end only the return to no attributes is left
 last : (a : Attributes) (cells : List Cell) (i : ℕ) → length cells ≤ i → cells_text a (drop i cells) ≡ attribute_change a plain
@@ -39,4 +39,4 @@ put_change-requires c =
 
 pub returns : goal.returns
 returns c =
-    finished (spelling c.loop-cell.invariant (last c.loop-cell.in_force c.args.cells.now c.loop-cell.cell-index c.loop-cell-test.false)) c.put_change.ensures
+    finished c.loop-cell.invariant (last c.loop-cell.in_force c.args.cells.now c.loop-cell.cell-index c.loop-cell-test.false) c.put_change.ensures
