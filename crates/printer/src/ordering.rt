@@ -43,7 +43,7 @@ impl Printer {
         ensures { CarriesAlone (bar_code (parameters_of parameters) (listed string)) self.old owed.old result owed.new self.new }
     {
         let size = BarSize::new(parameters.width, parameters.height).ok_or(Refusal::OutOfRange)?;
-        let kind = BarKind::from_number(parameters.kind);
+        let kind = BarKind::try_from(parameters.kind).ok();
         match Bars::new(kind, size, parameters.shown == 1, string.as_slice()) {
             Ok(bars) => {
                 let row = self.close_row();

@@ -4,7 +4,7 @@ ghost use Rattle.interpreter.specs.Interpreter.{Takes, owes};
 ghost use Rattle.report.specs.Reports.{AddsByte, AddsOwed, Reports, refused_list, refused_of};
 
 use crate::lines::add_line;
-use interpreter::{Interpreter, Taken};
+use interpreter::{Interpreter, StepFault};
 use runs::fault::RefusedCommand;
 use std::alloc::{AllocError, Global};
 
@@ -32,13 +32,12 @@ fn take_byte(interpreter: &mut Interpreter, stream: &[u8], index: usize) -> Opti
     ensures { Takes stream.now index interpreter.old (refused_list result) interpreter.new }
 {
     match interpreter.step(stream, index) {
-        Taken::Accepted => None,
-        Taken::Refused(refusal, place) => Some(RefusedCommand {
+        Ok(()) => None,
+        Err(StepFault::Refused(refusal, place)) => Some(RefusedCommand {
             refusal,
             place: place as i64,
         }),
-        Taken::Ended => unreachable(),
-        Taken::Owing => unreachable(),
+        Err(StepFault::Ended | StepFault::Owing) => unreachable(),
     }
 }
 
