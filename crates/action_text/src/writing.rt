@@ -17,7 +17,7 @@ impl<'a> Pen<'a> {
         requires { length (action_text (bars_act bars.now)) ≤ left self.old }
         ensures { Wrote self.old (action_text (bars_act bars.now)) self.new }
     {
-        let kind = bars.kind().number();
+        let kind = u8::from(bars.kind());
         let shown = u8::from(bars.is_shown());
         self.put(&[0x1B, 0x62, kind, bars.width(), bars.height(), shown]);
         self.put(bars.string());

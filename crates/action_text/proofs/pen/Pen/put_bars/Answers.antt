@@ -11,7 +11,7 @@ same k k' w w' h h' f f' s s' e₁ e₂ e₃ e₄ e₅ = λ i. (0x1B ∷ 0x62 �
 
 pub returns : goal.returns
 returns c =
-    let kind = c.number-kind.ensures ∙ ap kind_number c.kind.ensures in
+    let kind = c.from-kind.ensures ∙ ap kind_number c.kind.ensures in
     let shown = c.from-shown.ensures ∙ as_flag c.is_shown.result ∙ ap flag c.is_shown.ensures in
     spelt (same _ _ _ _ _ _ _ _ _ _ kind c.width.ensures c.height.ensures shown c.string.ensures)
     (next (next c.put.ensures c.put-2.ensures) c.put-3.ensures)
