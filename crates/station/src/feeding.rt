@@ -1,23 +1,16 @@
 //! Feeding a piece of a stream.
 ghost use Rattle.std.specs.Prelude.{◌≡◌, ◌<◌, [], length};
-ghost use Rattle.action.specs.Meanings.{act_of};
-ghost use Rattle.mechanism.specs.Mechanisms.{Acted};
 ghost use Rattle.interpreter.specs.Interpreter.{owes};
 ghost use Rattle.runs.specs.Calls.{fed};
 ghost use Rattle.station.specs.Feeding.{Extends, Fed, FeedsByte, Settles, TakesByte};
 
-use action::actions::Action;
 use interpreter::{Interpreter, StepFault};
 use mechanism::fault::Fault;
 use mechanism::mechanism::Mechanism;
 use runs::fault::{FeedFault, RefusedCommand};
 
-/// Offers one action.
-fn offer<M: Mechanism>(mechanism: &mut M, action: &Action) -> Result<(), Fault>
-    ensures { Acted M.Mechanism.reserve M.Mechanism.stopped M.Mechanism.need M.Mechanism.took mechanism.old (act_of action.now) result mechanism.new }
-{
-    mechanism.act(action)
-}
+// The interpreter and the mechanism are passed side by side: a struct of the two loans would have each of its methods say of both
+// loans that they stay the ones that its caller lent.
 
 /// Offers what is owed, the first first, until nothing is owed or the mechanism refuses.
 #[tactic(auto, using(runs::proofs::Settling::settling_none, runs::proofs::Settling::settling_more, runs::proofs::Settling::settling_ends))]
@@ -25,7 +18,7 @@ fn settle<M: Mechanism>(interpreter: &mut Interpreter, mechanism: &mut M) -> Res
     ensures { Settles M.Mechanism interpreter.old mechanism.old result interpreter.new mechanism.new }
 {
     while let Some(action) = interpreter.owed().first() {
-        offer(mechanism, &action)?;
+        mechanism.act(&action)?;
         interpreter.remove_first();
     }
     Ok(())
