@@ -66,6 +66,7 @@ impl Refusal {
 }
 
 /// Of an unfinished command at most 41 bytes are kept, the last ones of the stream, and they alone say what is read next.
+#[tactic(auto, using(crate::proofs::Kept::kept))]
 pub fn unfinished_commands_are_kept()
     ensures { UnfinishedCommandsAreKept }
 {}
