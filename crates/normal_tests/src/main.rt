@@ -7,7 +7,7 @@
 mod tickets;
 
 use crate::tickets::show_tickets;
-use anyhow::anyhow;
+use anyhow::{Context, bail};
 use hexadecimal::decode;
 use normal::answer::NormaliseFault;
 use normal::normalise::normalise;
@@ -27,7 +27,7 @@ struct Expected {
     buffer: usize,
     text: Vec<u8>,
     passed_over: usize,
-    number: u8,
+    refusal: Option<u8>,
 }
 
 fn bytes(heap: Global, word: &str) -> anyhow::Result<Vec<u8>> {
@@ -37,9 +37,7 @@ fn bytes(heap: Global, word: &str) -> anyhow::Result<Vec<u8>> {
 
 /// A row with a buffer that has room for its text.
 fn whole_row(heap: Global, stream: &str, rest: &str) -> anyhow::Result<Expected> {
-    let Some((text, passed_over)) = rest.split_once(' ') else {
-        return Err(anyhow!("a row has two words"));
-    };
+    let (text, passed_over) = rest.split_once(' ').context("a row has two words")?;
     let text = bytes(heap, text)?;
     let buffer = text.len().saturating_add(ROW_NEED);
     Ok(Expected {
@@ -47,52 +45,43 @@ fn whole_row(heap: Global, stream: &str, rest: &str) -> anyhow::Result<Expected>
         buffer,
         text,
         passed_over: passed_over.parse::<usize>()?,
-        number: 0,
+        refusal: None,
     })
 }
 
 /// A row with a buffer of its own length.
 fn short_row(heap: Global, stream: &str, rest: &str) -> anyhow::Result<Expected> {
-    let Some((length, rest)) = rest.split_once(' ') else {
-        return Err(anyhow!("a row has two words"));
-    };
-    let Some((text, rest)) = rest.split_once(' ') else {
-        return Err(anyhow!("a row has three words"));
-    };
-    let Some((passed_over, outcome)) = rest.split_once(' ') else {
-        return Err(anyhow!("a row has four words"));
-    };
-    let number = match outcome.strip_prefix("held ") {
-        Some(number) => number.parse::<u8>()?,
-        None => 0,
-    };
+    let (length, rest) = rest.split_once(' ').context("a row has two words")?;
+    let (text, rest) = rest.split_once(' ').context("a row has three words")?;
+    let (passed_over, outcome) = rest.split_once(' ').context("a row has four words")?;
+    let refusal = outcome
+        .strip_prefix("held ")
+        .map(|number| number.parse::<u8>())
+        .transpose()?;
     Ok(Expected {
         stream: bytes(heap, stream)?,
         buffer: length.parse::<usize>()?,
         text: bytes(heap, text)?,
         passed_over: passed_over.parse::<usize>()?,
-        number,
+        refusal,
     })
 }
 
-fn number(outcome: Result<(), NormaliseFault>) -> u8 {
-    match outcome {
-        Ok(()) => 0,
-        Err(fault) => fault.number(),
-    }
+/// The number of the refusal, if there is one.
+fn refusal(outcome: Result<(), NormaliseFault>) -> Option<u8> {
+    outcome.err().map(|fault| fault.number())
+}
+
+/// The number under which an outcome is printed, 0 for a text that is written whole.
+fn printed(outcome: Result<(), NormaliseFault>) -> u8 {
+    refusal(outcome).unwrap_or(0)
 }
 
 /// Whether a buffer holds a text, and behind it what it held before.
 fn holds(buffer: &[u8], text: &[u8]) -> bool {
-    if !buffer.starts_with(text) {
-        return false;
-    }
-    for byte in buffer.iter().skip(text.len()) {
-        if *byte != FOUND {
-            return false;
-        }
-    }
-    true
+    buffer
+        .strip_prefix(text)
+        .is_some_and(|rest| rest.iter().all(|byte| *byte == FOUND))
 }
 
 fn is_as_expected(heap: Global, expected: &Expected) -> anyhow::Result<bool> {
@@ -101,7 +90,7 @@ fn is_as_expected(heap: Global, expected: &Expected) -> anyhow::Result<bool> {
     Ok(
         answer.written == expected.text.len()
             && answer.passed_over == expected.passed_over
-            && number(answer.outcome) == expected.number
+            && refusal(answer.outcome) == expected.refusal
             && holds(&buffer, &expected.text),
     )
 }
@@ -112,9 +101,7 @@ fn compare_tables(rt: &HostRuntime) -> anyhow::Result<()> {
     let mut short = 0u32;
     for row in BufReader::new(rt.alloc(), rt.stdin())?.lines(rt.alloc()) {
         let row = row?;
-        let Some((stream, rest)) = row.split_once(' ') else {
-            return Err(anyhow!("a row has one word"));
-        };
+        let (stream, rest) = row.split_once(' ').context("a row has one word")?;
         if stream == "#" {
             continue;
         }
@@ -127,7 +114,7 @@ fn compare_tables(rt: &HostRuntime) -> anyhow::Result<()> {
         };
         if !is_as_expected(rt.alloc(), &expected)? {
             rt.eprintln(&row)?;
-            return Err(anyhow!("this row's text, count, outcome or buffer differs"));
+            bail!("this row's text, count, outcome or buffer differs");
         }
     }
     println!(rt; "{whole} normal texts are those of the table")?;
@@ -141,7 +128,7 @@ fn try_long_streams(rt: &HostRuntime) -> anyhow::Result<()> {
         let stream = vec![in rt.alloc(); 0x07u8; length]?;
         let mut buffer = vec![in rt.alloc(); FOUND; 65_537]?;
         let answer = normalise(&stream, &mut buffer);
-        let outcome = number(answer.outcome);
+        let outcome = printed(answer.outcome);
         let written = answer.written;
         let untouched = holds(&buffer, b"");
         println!(rt;

@@ -1,7 +1,7 @@
 //! Writes the normal text of the stream on standard input.
 #![tactic(auto)]
 
-use anyhow::anyhow;
+use anyhow::{Context, bail};
 use reading::Refusal;
 use report::reporting::make_report;
 use report::whole_text::whole_text;
@@ -28,6 +28,7 @@ enum Form {
     Lines,
 }
 
+/// Why a command is refused. No impl of Display: the device's crates have numbers alone, and sentences stand in programs.
 fn reason(refusal: Refusal) -> &'static str {
     match refusal {
         Refusal::UnknownCommand => "unknown command",
@@ -53,7 +54,7 @@ fn write_text(rt: &HostRuntime, form: Form) -> anyhow::Result<()> {
     let mut stream = Vec::new(rt.alloc());
     rt.stdin().take(READ_MAX).read_to_end(&mut stream)?;
     let text = whole_text(rt.alloc(), &stream)?;
-    let report = make_report(rt.alloc(), &stream)?;
+    let report = make_report(rt.alloc(), &stream).context("there is no memory for the report")?;
     tell_refused(rt, &report.refused)?;
     match form {
         Form::Bytes => rt.stdout().write_all(&text)?,
@@ -63,21 +64,19 @@ fn write_text(rt: &HostRuntime, form: Form) -> anyhow::Result<()> {
 }
 
 fn run(rt: &HostRuntime) -> anyhow::Result<()> {
-    let mut words = env::args(rt)?;
-    let Some(word) = words.nth(1) else {
+    // A parser of command lines would word the help and the refusals itself, and end with a status of its own.
+    let mut words = env::args(rt)?.skip(1);
+    let Some(word) = words.next() else {
         return write_text(rt, Form::Bytes);
     };
     if words.next().is_some() {
-        return Err(anyhow!("it takes one argument at most; try --help"));
+        bail!("it takes one argument at most; try --help");
     }
-    if word.as_str() == "--lines" {
-        return write_text(rt, Form::Lines);
+    match word.as_str() {
+        "--lines" => write_text(rt, Form::Lines),
+        "--help" => Ok(rt.print(USAGE)?),
+        _ => bail!("it takes --lines or nothing; try --help"),
     }
-    if word.as_str() == "--help" {
-        rt.print(USAGE)?;
-        return Ok(());
-    }
-    Err(anyhow!("it takes --lines or nothing; try --help"))
 }
 
 fn main(rt: HostRuntime) -> anyhow::Result<ExitCode> {
