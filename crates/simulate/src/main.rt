@@ -5,8 +5,8 @@ mod script;
 mod show;
 
 use crate::script::{Call, Machine, Script, read_call, read_machine};
-use crate::show::{Gauges, show_hex, show_outcome, show_settings, show_state};
-use anyhow::anyhow;
+use crate::show::{Shown, show_outcome, show_settings, show_state};
+use anyhow::Context;
 use mechanism::mechanism::Mechanism;
 use page::page::Page;
 use plate::plate::Plate;
@@ -49,9 +49,8 @@ fn answer<M: Mechanism>(
         }
         Call::Status => {
             let status = station.status();
-            show_hex(rt, &[status.status1])?;
-            rt.print(" ")?;
-            show_hex(rt, &[status.status2])?;
+            let (status1, status2) = (status.status1, status.status2);
+            print!(rt; "{status1:02X} {status2:02X}")?;
         }
         Call::Settings => show_settings(rt, station.settings())?,
     }
@@ -59,11 +58,13 @@ fn answer<M: Mechanism>(
 }
 
 /// Plays the calls of one run, and answers the line that begins the next.
-fn play<M: Mechanism + Gauges>(
+fn play<M: Mechanism + Shown + Drop>(
     rt: &HostRuntime,
     script: &mut Script,
-    station: &mut Station<M>,
+    mechanism: M,
 ) -> anyhow::Result<Option<String>> {
+    let mut station = Station::new(mechanism);
+    // No while let: nothing says that the input ends.
     for _turn in 0..u64::MAX {
         let Some(line) = script.next_line(rt.alloc())? else {
             break;
@@ -74,32 +75,25 @@ fn play<M: Mechanism + Gauges>(
         let call = read_call(rt.alloc(), &line)?;
         rt.print(&line)?;
         rt.print(" -> ")?;
-        answer(rt, station, &call)?;
-        show_state(rt, station.mechanism(), *station.owed())?;
+        answer(rt, &mut station, &call)?;
+        show_state(rt, &station.mechanism().gauges(), station.owed().len())?;
     }
     Ok(None)
 }
 
 /// Begins a run and plays it.
 fn begin(rt: &HostRuntime, script: &mut Script, line: &str) -> anyhow::Result<Option<String>> {
-    let Some(machine) = read_machine(line)? else {
-        return Err(anyhow!("a script begins with a run"));
-    };
+    let machine = read_machine(line)?.context("a script begins with a run")?;
     rt.println(line)?;
     match machine {
-        Machine::Plate => {
-            let mut station = Station::new(Plate::new());
-            play(rt, script, &mut station)
-        }
+        Machine::Plate => play(rt, script, Plate::new()),
         Machine::Page(length) => {
             let mut buffer = vec![in rt.alloc(); 0u8; length]?;
-            let mut station = Station::new(Page::new(&mut buffer));
-            play(rt, script, &mut station)
+            play(rt, script, Page::new(&mut buffer))
         }
         Machine::Writer(length) => {
             let mut buffer = vec![in rt.alloc(); 0u8; length]?;
-            let mut station = Station::new(Writer::new(&mut buffer));
-            play(rt, script, &mut station)
+            play(rt, script, Writer::new(&mut buffer))
         }
     }
 }
@@ -107,6 +101,7 @@ fn begin(rt: &HostRuntime, script: &mut Script, line: &str) -> anyhow::Result<Op
 /// Plays all runs of a script.
 fn simulate(rt: &HostRuntime, script: &mut Script) -> anyhow::Result<()> {
     let mut next = script.next_line(rt.alloc())?;
+    // No while let: nothing says that the input ends.
     for _turn in 0..u64::MAX {
         let Some(line) = next else {
             break;
@@ -128,6 +123,7 @@ fn play_input(rt: &HostRuntime) -> anyhow::Result<ExitCode> {
 }
 
 fn main(rt: HostRuntime) -> anyhow::Result<ExitCode> {
+    // A parser of command lines would word the help and the refusals itself, and end with a status of its own.
     match env::args(&rt)?.nth(1) {
         None => play_input(&rt),
         Some(word) if word.as_str() == "--help" => {

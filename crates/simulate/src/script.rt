@@ -1,14 +1,14 @@
 //! Scripts: a call a line.
-use anyhow::anyhow;
+use anyhow::bail;
 use hexadecimal::decode;
 use std::alloc::Global;
 use std::io;
-use std::io::{BufRead, BufReader, Stdin};
+use std::io::{BufRead, BufReader, Lines, Stdin};
 
 /// A script on standard input, read line by line.
 #[derive(Drop)]
 pub struct Script {
-    input: BufReader<Stdin>,
+    lines: Lines<BufReader<Stdin>>,
     number: u64,
 }
 
@@ -35,7 +35,7 @@ pub enum Call {
 impl Script {
     pub fn new(heap: Global, input: Stdin) -> io::Result<Script> {
         Ok(Script {
-            input: BufReader::new(heap, input)?,
+            lines: BufReader::new(heap, input)?.lines(heap),
             number: 0,
         })
     }
@@ -47,11 +47,8 @@ impl Script {
 
     /// The next line that is neither empty nor a comment.
     pub fn next_line(&mut self, heap: Global) -> anyhow::Result<Option<String>> {
-        for _turn in 0..u64::MAX {
-            let mut line = String::new(heap);
-            if self.input.read_line(&mut line)? == 0 {
-                break;
-            }
+        for line in &mut self.lines {
+            let line = line?;
             self.number = self.number.saturating_add(1);
             let text = line.trim_end();
             if !text.is_empty() && !text.starts_with('#') {
@@ -64,35 +61,27 @@ impl Script {
 
 /// The mechanism that a line begins a run with; none if the line begins no run.
 pub fn read_machine(line: &str) -> anyhow::Result<Option<Machine>> {
-    if line == "run plate" {
-        return Ok(Some(Machine::Plate));
+    let Some(words) = line.strip_prefix("run ") else {
+        return Ok(None);
+    };
+    match words.split_once(' ') {
+        None if words == "plate" => Ok(Some(Machine::Plate)),
+        Some(("page", length)) => Ok(Some(Machine::Page(length.parse::<usize>()?))),
+        Some(("writer", length)) => Ok(Some(Machine::Writer(length.parse::<usize>()?))),
+        _ => bail!("a run begins with plate, or page or writer and a length"),
     }
-    if let Some(length) = line.strip_prefix("run page ") {
-        return Ok(Some(Machine::Page(length.parse::<usize>()?)));
-    }
-    if let Some(length) = line.strip_prefix("run writer ") {
-        return Ok(Some(Machine::Writer(length.parse::<usize>()?)));
-    }
-    if line.starts_with("run ") {
-        return Err(anyhow!("a run begins with plate, or page or writer and a length"));
-    }
-    Ok(None)
 }
 
 /// The call of a line.
 pub fn read_call(heap: Global, line: &str) -> anyhow::Result<Call> {
-    if let Some(piece) = line.strip_prefix("feed ") {
-        let digits = if piece == "-" { "" } else { piece };
-        return Ok(Call::Feed(decode(heap, digits.as_bytes())?));
-    }
-    if let Some(offered) = line.strip_prefix("supply ") {
-        return Ok(Call::Supply(offered.parse::<u32>()?));
-    }
-    match line {
-        "cover open" => Ok(Call::Cover(true)),
-        "cover closed" => Ok(Call::Cover(false)),
-        "status" => Ok(Call::Status),
-        "settings" => Ok(Call::Settings),
-        _ => Err(anyhow!("a call is feed, cover, supply, status or settings")),
+    match line.split_once(' ') {
+        Some(("feed", "-")) => Ok(Call::Feed(Vec::new(heap))),
+        Some(("feed", digits)) => Ok(Call::Feed(decode(heap, digits.as_bytes())?)),
+        Some(("supply", offered)) => Ok(Call::Supply(offered.parse::<u32>()?)),
+        Some(("cover", "open")) => Ok(Call::Cover(true)),
+        Some(("cover", "closed")) => Ok(Call::Cover(false)),
+        None if line == "status" => Ok(Call::Status),
+        None if line == "settings" => Ok(Call::Settings),
+        _ => bail!("a call is feed, cover, supply, status or settings"),
     }
 }

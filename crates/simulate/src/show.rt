@@ -1,5 +1,4 @@
 //! What the simulator prints.
-use action::owed::Owed;
 use job::settings::Cutter;
 use mechanism::counts::Counts;
 use page::page::Page;
@@ -9,83 +8,55 @@ use settings::Settings;
 use writer::writer::Writer;
 
 /// What is shown of a mechanism.
-pub trait Gauges {
-    fn counts(&self) -> Counts;
-
+#[derive(Clone, Copy)]
+pub struct Gauges<'a> {
+    pub counts: Counts,
     /// What its sheet has beyond the counts.
-    fn beyond(&self) -> &[u8];
-
-    fn reserve(&self) -> u32;
-
-    fn is_stopped(&self) -> bool;
-
+    pub beyond: &'a [u8],
+    pub reserve: u32,
+    pub is_stopped: bool,
     /// The bytes of its latest reply, if it keeps them.
-    fn latest_reply(&self) -> &[u8];
+    pub latest_reply: &'a [u8],
 }
 
-impl Gauges for Plate {
-    fn counts(&self) -> Counts {
-        Plate::counts(self)
-    }
+/// A mechanism whose state can be shown.
+pub trait Shown {
+    fn gauges(&self) -> Gauges<'_>;
+}
 
-    fn beyond(&self) -> &[u8] {
-        b""
-    }
-
-    fn reserve(&self) -> u32 {
-        Plate::reserve(self)
-    }
-
-    fn is_stopped(&self) -> bool {
-        Plate::is_stopped(self)
-    }
-
-    fn latest_reply(&self) -> &[u8] {
-        Plate::latest_reply(self)
+impl Shown for Plate {
+    fn gauges(&self) -> Gauges<'_> {
+        Gauges {
+            counts: self.counts(),
+            beyond: b"",
+            reserve: self.reserve(),
+            is_stopped: self.is_stopped(),
+            latest_reply: self.latest_reply(),
+        }
     }
 }
 
-impl Gauges for Page<'_> {
-    fn counts(&self) -> Counts {
-        Page::counts(self)
-    }
-
-    fn beyond(&self) -> &[u8] {
-        self.written()
-    }
-
-    fn reserve(&self) -> u32 {
-        Page::reserve(self)
-    }
-
-    fn is_stopped(&self) -> bool {
-        Page::is_stopped(self)
-    }
-
-    fn latest_reply(&self) -> &[u8] {
-        b""
+impl Shown for Page<'_> {
+    fn gauges(&self) -> Gauges<'_> {
+        Gauges {
+            counts: self.counts(),
+            beyond: self.written(),
+            reserve: self.reserve(),
+            is_stopped: self.is_stopped(),
+            latest_reply: b"",
+        }
     }
 }
 
-impl Gauges for Writer<'_> {
-    fn counts(&self) -> Counts {
-        Writer::counts(self)
-    }
-
-    fn beyond(&self) -> &[u8] {
-        self.written()
-    }
-
-    fn reserve(&self) -> u32 {
-        Writer::reserve(self)
-    }
-
-    fn is_stopped(&self) -> bool {
-        Writer::is_stopped(self)
-    }
-
-    fn latest_reply(&self) -> &[u8] {
-        b""
+impl Shown for Writer<'_> {
+    fn gauges(&self) -> Gauges<'_> {
+        Gauges {
+            counts: self.counts(),
+            beyond: self.written(),
+            reserve: self.reserve(),
+            is_stopped: self.is_stopped(),
+            latest_reply: b"",
+        }
     }
 }
 
@@ -124,14 +95,12 @@ fn yes_or_no(mark: bool) -> &'static str {
 
 /// Numbers with commas between them, or - for none.
 fn show_list(rt: &HostRuntime, numbers: &[u8]) -> anyhow::Result<()> {
-    if numbers.is_empty() {
-        rt.print("-")?;
-    }
-    for (i, n) in numbers.iter().enumerate() {
-        if i > 0 {
-            rt.print(",")?;
-        }
-        print!(rt; "{n}")?;
+    let Some((first, others)) = numbers.split_first() else {
+        return Ok(rt.print("-")?);
+    };
+    print!(rt; "{first}")?;
+    for n in others {
+        print!(rt; ",{n}")?;
     }
     Ok(())
 }
@@ -171,34 +140,20 @@ pub fn show_settings(rt: &HostRuntime, settings: &Settings) -> anyhow::Result<()
     Ok(())
 }
 
-/// How many actions are owed: at most a row, 255 advances and another one.
-fn count_owed(mut owed: Owed) -> u32 {
-    let mut count = 0u32;
-    for _turn in 0..257 {
-        if owed.is_empty() {
-            break;
-        }
-        owed.remove_first();
-        count = count.saturating_add(1);
-    }
-    count
-}
-
 /// The state after a call: counts, bytes beyond them, reserve, stopped mark, number of actions owed, latest reply.
-pub fn show_state<G: Gauges>(rt: &HostRuntime, mechanism: &G, owed: Owed) -> anyhow::Result<()> {
-    let c = mechanism.counts();
+pub fn show_state(rt: &HostRuntime, gauges: &Gauges<'_>, owed: usize) -> anyhow::Result<()> {
+    let c = gauges.counts;
     rt.print(" ; ")?;
     for count in [c.advance, c.rows, c.bars, c.cuts, c.pulses, c.beeps] {
         print!(rt; "{count},")?;
     }
     let replies = c.replies;
     print!(rt; "{replies} / ")?;
-    show_hex(rt, mechanism.beyond())?;
-    let reserve = mechanism.reserve();
-    let stopped = yes_or_no(mechanism.is_stopped());
-    let owed = count_owed(owed);
+    show_hex(rt, gauges.beyond)?;
+    let reserve = gauges.reserve;
+    let stopped = yes_or_no(gauges.is_stopped);
     print!(rt; " / {reserve} / {stopped} / {owed} / ")?;
-    show_hex(rt, mechanism.latest_reply())?;
+    show_hex(rt, gauges.latest_reply)?;
     rt.println("")?;
     Ok(())
 }
