@@ -21,6 +21,7 @@ pub enum FeedFault {
     Mechanism(Fault),
 }
 
+// By hand, as the one below: a derived From has no contract, and clauses name the fault that a ? makes.
 impl From<Fault> for FeedFault {
     ghost from_gives = { λ f r. r ≡ Mechanism f };
 
@@ -38,7 +39,7 @@ impl From<RefusedCommand> for FeedFault {
 }
 
 impl FeedFault {
-    /// The number under which the fault is reported.
+    /// The number under which the fault is reported; a method and no From, since u8::from(fault) would not say which number.
     pub fn number(self) -> u8
         ensures { result ≡ number_of self }
     {

@@ -9,36 +9,28 @@ ghost use Rattle.runs.specs.Breaks.{Breaks};
 use mechanism::mechanism::Mechanism;
 
 /// The needs, the reserve and mark at the start, the mechanism's choices and what is asked determine every answer, the bytes taken and the actions owed.
-pub fn runs_are_determined() -> u8
+pub fn runs_are_determined()
     ensures follows { Follows }
     ensures alike { Alike }
-{
-    0
-}
+{}
 
 /// Each feed's answer counts the bytes that it took; joined, these are the bytes taken.
-pub fn answers_count_the_bytes_taken() -> u8
+pub fn answers_count_the_bytes_taken()
     ensures bytes { CountsBytes }
     ensures joins { Joins }
-{
-    0
-}
+{}
 
 /// The feeds' answers tell of every command refused in the bytes taken, once, by its number and place; a place is that of a byte taken, at most 41 before the piece.
-pub fn refused_commands_are_told() -> u8
+pub fn refused_commands_are_told()
     ensures told { RefusalsAreTold }
     ensures near { PlacesAreNear }
-{
-    0
-}
+{}
 
 /// Every feed has an end, and so has every run, whatever is asked and whatever the mechanism chooses.
-pub fn runs_have_an_end() -> u8
+pub fn runs_have_an_end()
     ensures feeds { GoesOn }
     ensures runs { RunsOn }
-{
-    0
-}
+{}
 
 /// A feed does what was owed and what the bytes taken order, in order, up to what is owed at its end, and tells of the one command refused in them, if that ended it.
 pub fn feeds_do_the_job<M: Mechanism>(_mechanism: &M)
@@ -56,8 +48,6 @@ pub fn every_run_stands<M: Mechanism>(_mechanism: &M)
 {}
 
 /// The law is false of a station that drops actions, does them twice or owes them still, counts bytes that it did not read, forgets what it read, grants more than was offered, or raises the reserve in a cover call.
-pub fn broken_stations_break_the_law() -> u8
+pub fn broken_stations_break_the_law()
     ensures { Breaks }
-{
-    0
-}
+{}
