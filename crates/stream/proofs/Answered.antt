@@ -27,8 +27,8 @@ begins b bs a e k = go (meaning text b) (moves text b tt) k ∙ sym (first_comma
   where
     go : (m : Meaning) → Moves (b ∷ []) m → going_on a ≡ outline m → follow 1 a bs ≡ by_first bs m
     go (more q) w k = let same : a ≡ awaited q = cc in ap (λ (a : Awaited). follow 1 a bs) same ∙ sym (agree bs 1 q w.0)
-    go (done o q) w k = let z : ◌≡◌ {A = ℕ} 0 1 = cc in absurd (omega arith)
-    go (refused why q) w k = let z : ◌≡◌ {A = ℕ} 0 1 = cc in absurd (omega arith)
+    go (done o q) w k = absurd cc
+    go (refused why q) w k = absurd cc
 
 -- text bytes, as many as follow up to 16
 text_long : (s : List ℕ) → length (take 16 (take_while is_text s)) ≡ min 16 (prefix_len is_text s)
@@ -57,5 +57,5 @@ pub from_ok : (s : List ℕ) (place : ℕ) (o : Option Part) → ◌≡◌ {A = 
 from_ok s place o e = go (too_long s) refl e
   where
     go : (t : Bool) → too_long s ≡ t → ◌≡◌ {A = Answer} (Ok o) (cond t (Err 6) (Ok (part_at s place))) → (too_long s ≡ false) × (part_at s place ≡ o)
-    go true k e = let z : ◌≡◌ {A = ℕ} 0 1 = cc in absurd (omega arith)
+    go true k e = absurd cc
     go false k e = (k, cc)

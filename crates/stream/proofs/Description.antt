@@ -6,7 +6,7 @@ use Rattle.std.proofs.lemmas.List.Sums.{prefix_len-le-length}
 use Rattle.std.proofs.lemmas.Bool.{cond-true, cond-false, cond_both, cases_lt}
 use Rattle.reading.specs.declared.Refusal.{Refusal}
 use Rattle.reading.specs.Tests.{find}
-use Rattle.reading.specs.Commands.{Command as Order, print}
+use Rattle.reading.specs.Commands.{print}
 use Rattle.reading.specs.Reading.{Reading, text, escape, group, parameter, repeat_what, repeat_count, bar_parameters, bar_string, vertical_list, horizontal_list, body, Meaning, more, done, refused, complete, unknown, is_text, single_bytes, escape_codes, group_codes, meaning}
 use Rattle.reading.proofs.Within.{Within, Moves, moves}
 use Rattle.stream.specs.Kind.{Text, Control, Command, Refused, Unfinished}
@@ -84,17 +84,11 @@ not_printed b m e never = go (is_text b) e
     go true e = absurd (never e)
     go false e = refl
 
-no_more : (o : Order) (p r : Reading) → done o p ≡ more r → ⊥
-no_more o p r e = let z : ◌≡◌ {A = ℕ} 0 1 = cc in omega arith
-
-no_refusal : (o : Order) (p r : Reading) (why : Refusal) → done o p ≡ refused why r → ⊥
-no_refusal o p r why e = let z : ◌≡◌ {A = ℕ} 0 1 = cc in omega arith
-
 pub plain_more : (b : ℕ) (r : Reading) → meaning text b ≡ more r → is_text b ≡ false
-plain_more b r e = not_printed b (more r) e (no_more (print b) text r)
+plain_more b r e = not_printed b (more r) e (λ k. cc)
 
 pub plain_refused : (b : ℕ) (why : Refusal) (r : Reading) → meaning text b ≡ refused why r → is_text b ≡ false
-plain_refused b why r e = not_printed b (refused why r) e (no_refusal (print b) text r why)
+plain_refused b why r e = not_printed b (refused why r) e (λ k. cc)
 
 leads : (b : ℕ) (r : Reading) → meaning text b ≡ more r → Leads r
 leads b r e = subst Opens e (opens b)

@@ -192,8 +192,7 @@ begun_ends a bs n h w = go (follow n a bs) (followed a bs n h)
         absurd (omega (arith, same, length-append bs w.rest, ap length j, length-append front rest, w.some))
     go _ (passed front rest e j k) =
         let same : kind.Refused ≡ kind.Command = ap (λ (x : Extent). x.kind) (onward kind.Refused front rest j (λ l. overlong_ends a front l n h k)) in
-        let z : ◌≡◌ {A = ℕ} 0 1 = cc in
-        absurd (omega arith)
+        absurd cc
 
 -- so many bytes the description allows
 pub complete_fits : (a : Awaited) (bs : List ℕ) → Fits a → Completes a bs → length bs ≤ 40

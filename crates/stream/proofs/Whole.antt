@@ -45,13 +45,13 @@ described_sized s _ (cut_short {b = b} {c = c} {front = front} {r = r} {q = q} j
 unfinished_whole : (s : List ℕ) (p : Part) → Described s p → p.kind ≡ Unfinished → p.bytes ≡ s
 unfinished_whole s _ (no_code j k) u = sym j
 unfinished_whole s _ (cut_short j e k w) u = sym j
-unfinished_whole s _ (text_run run rest j all some few stop) u = let z : ◌≡◌ {A = ℕ} 0 1 = cc in absurd (omega arith)
-unfinished_whole s _ (control j e k) u = let z : ◌≡◌ {A = ℕ} 0 1 = cc in absurd (omega arith)
-unfinished_whole s _ (unknown_byte j k) u = let z : ◌≡◌ {A = ℕ} 0 1 = cc in absurd (omega arith)
-unfinished_whole s _ (pair j e k) u = let z : ◌≡◌ {A = ℕ} 0 1 = cc in absurd (omega arith)
-unfinished_whole s _ (unknown_pair j e k) u = let z : ◌≡◌ {A = ℕ} 0 1 = cc in absurd (omega arith)
-unfinished_whole s _ (whole front rest j e k w) u = let z : ◌≡◌ {A = ℕ} 0 1 = cc in absurd (omega arith)
-unfinished_whole s _ (overlong front rest j e k w) u = let z : ◌≡◌ {A = ℕ} 0 1 = cc in absurd (omega arith)
+unfinished_whole s _ (text_run run rest j all some few stop) u = absurd cc
+unfinished_whole s _ (control j e k) u = absurd cc
+unfinished_whole s _ (unknown_byte j k) u = absurd cc
+unfinished_whole s _ (pair j e k) u = absurd cc
+unfinished_whole s _ (unknown_pair j e k) u = absurd cc
+unfinished_whole s _ (whole front rest j e k w) u = absurd cc
+unfinished_whole s _ (overlong front rest j e k w) u = absurd cc
 
 pub sized : (s : List ℕ) → 1 ≤ length s → Sized (part s)
 sized s h = described_sized s (part s) (describe s h)
@@ -61,7 +61,7 @@ pub from_some : (s : List ℕ) (place : ℕ) (p : Part) → part_at s place ≡ 
 from_some s place p e = go (leb (length s) place) refl e
   where
     go : (t : Bool) → leb (length s) place ≡ t → cond t None (Some (part (drop place s))) ≡ Some p → (place < length s) × (part (drop place s) ≡ p)
-    go true k e = let z : ◌≡◌ {A = ℕ} 0 1 = cc in absurd (omega arith)
+    go true k e = absurd cc
     go false k e = (leb-false (length s) place k, cc)
 
 from_none : (s : List ℕ) (place : ℕ) → part_at s place ≡ None → length s ≤ place
@@ -69,7 +69,7 @@ from_none s place e = go (leb (length s) place) refl e
   where
     go : (t : Bool) → leb (length s) place ≡ t → cond t None (Some (part (drop place s))) ≡ None → length s ≤ place
     go true k e = leb-true (length s) place k
-    go false k e = let z : ◌≡◌ {A = ℕ} 0 1 = cc in absurd (omega arith)
+    go false k e = absurd cc
 
 pub at_end : (s : List ℕ) (place : ℕ) → length s ≤ place → part_at s place ≡ None
 at_end s place h = cond-true (leb (length s) place) None (Some (part (drop place s))) (le-leb (length s) place h)
@@ -127,7 +127,7 @@ pub some_same : (p q : Part) (o : Option Part) → o ≡ Some p → o ≡ Some q
 some_same p q o e k = cc
 
 pub no_part : (p : Part) (o : Option Part) → o ≡ Some p → o ≡ None → ⊥
-no_part p o e k = let z : ◌≡◌ {A = ℕ} 0 1 = cc in omega arith
+no_part p o e k = cc
 
 one_way : (s : List ℕ) (place : ℕ) (ps qs : List Part) → Parts s place ps → Parts s place qs → ps ≡ qs
 one_way s place _ _ (none e) (none k) = refl

@@ -24,7 +24,7 @@ pub const STREAM_MAX: usize = 65_536;
 pub const LINE_MAX: usize = 134;
 
 impl TokenFault {
-    /// The number under which the fault is reported.
+    /// The number under which the fault is reported; a method and no From, since u8::from(fault) would not say which number.
     pub fn number(self) -> u8
         ensures { result ≡ token_fault_number self }
     {
@@ -46,6 +46,7 @@ impl LineFault {
     }
 }
 
+// By hand: a derived From has no contract, and the clause of line names the fault.
 impl From<TokenFault> for LineFault {
     ghost from_gives = { λ fault r. line_fault_number r ≡ token_fault_number fault };
 
@@ -206,6 +207,7 @@ fn head(place: usize, letter: u8) -> [u8; 7]
     ]
 }
 
+/// Writes a line at the front of the buffer, and answers where it ends.
 fn put_line(out: &mut [u8], place: usize, letter: u8, bytes: &[u8]) -> usize
     requires { 8 + 3 * length bytes.now ≤ length out.old }
     ensures len { result ≡ length (line_text place letter bytes.now) }

@@ -29,6 +29,8 @@ pub enum Token<'a> {
     Unfinished(&'a [u8]),
 }
 
+// The faults have numbers and no sentences: the crates above write those, since a device needs no formatting.
+
 /// Why no token is given.
 #[derive(Clone, Copy, PartialEq, Eq, Debug)]
 pub enum TokenFault {
