@@ -7,7 +7,7 @@ ghost use Rattle.reading.specs.Reading.{is_text};
 ghost use Rattle.stream.specs.Answers.{part_of, token_fault_number, token_answer, token_told, too_long, Within};
 ghost use Rattle.stream.specs.Awaited.{progress, follow};
 ghost use Rattle.stream.specs.Laws.{Laws};
-ghost use Rattle.stream.specs.Lines.{head, hex, line_answer, line_left, line_fault_number, line_text, line_told, too_short, FitsALine};
+ghost use Rattle.stream.specs.Lines.{head, hex, line_answer, line_left, line_fault_number, line_of, line_told, too_short, FitsALine};
 ghost use Rattle.stream.specs.Parts.{cut, letter, part};
 
 mod parts;
@@ -207,14 +207,15 @@ fn head(place: usize, letter: u8) -> [u8; 7]
     ]
 }
 
-/// Writes a line at the front of the buffer, and answers where it ends.
-fn put_line(out: &mut [u8], place: usize, letter: u8, bytes: &[u8]) -> usize
-    requires { 8 + 3 * length bytes.now ≤ length out.old }
-    ensures len { result ≡ length (line_text place letter bytes.now) }
-    ensures after { out.new ≡ line_text place letter bytes.now ++ drop result out.old }
+/// Writes the line of a token at the front of the buffer, and answers where it ends.
+fn put_line(out: &mut [u8], place: usize, token: &Token<'_>) -> usize
+    requires { 8 + 3 * length (part_of token.now).bytes ≤ length out.old }
+    ensures len { result ≡ length (line_of place (part_of token.now)) }
+    ensures after { out.new ≡ line_of place (part_of token.now) ++ drop result out.old }
 {
+    let bytes = token.bytes();
     let end = 7 + 3 * bytes.len();
-    out[..7].copy_from_slice(&head(place, letter));
+    out[..7].copy_from_slice(&head(place, token.letter()));
     put_hex(&mut out[7..end], bytes);
     out[end] = b'\n';
     end + 1
@@ -239,5 +240,5 @@ pub fn line(stream: &[u8], place: usize, out: &mut [u8]) -> Result<Option<usize>
     let Some(token) = found else {
         return Ok(None);
     };
-    Ok(Some(put_line(out, place, token.letter(), token.bytes())))
+    Ok(Some(put_line(out, place, &token)))
 }
