@@ -1,4 +1,4 @@
-//! Bytes written in hexadecimal, as tests and scripts have them: two digits each, 0 to 9 and A to F, nothing between them.
+//! Bytes written in hexadecimal, as listings, tests and scripts have them: two digits each, 0 to 9 and A to F, nothing between them.
 #![tactic(auto)]
 
 ghost use Rattle.std.specs.Prelude.{◌≡◌, ◌<◌, ◌++◌, Some, MatchResult};

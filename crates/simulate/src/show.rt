@@ -36,6 +36,7 @@ impl Shown for Plate {
     }
 }
 
+// Page and writer are types of two crates; the words that they share here are fewer than a trait over both would need.
 impl Shown for Page<'_> {
     fn gauges(&self) -> Gauges<'_> {
         Gauges {

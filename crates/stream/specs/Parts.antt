@@ -40,7 +40,7 @@ pub record Part : Type 0 where
 abbrev pub a_part : Kind → List ℕ → Part
 a_part k bs = record { kind = k; bytes = bs }
 
--- so many of the bytes, of that kind
+-- the part of that kind with so many of the bytes
 abbrev pub cut : Extent → List ℕ → Part
 cut e s = a_part e.kind (take e.count s)
 
