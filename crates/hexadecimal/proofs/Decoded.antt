@@ -12,14 +12,11 @@ no_low : (high : Option ℕ) → of_digits high None ≡ None
 no_low None = refl
 no_low (Some h) = refl
 
-no_value : (v : ℕ) → Some v ≡ None → ⊥
-no_value v e = let z : ◌≡◌ {A = ℕ} 0 1 = cc in omega arith
-
 pub one_more : (text front new : List ℕ) (v : ℕ) (whole : Option (List ℕ)) → Some v ≡ byte_value (get_or text 0 0) (get_or text 1 0)
     → whole ≡ option_map (λ (bs : List ℕ). front ++ bs) (decoded text) → new ≡ front ++ v ∷ []
     → whole ≡ option_map (λ (bs : List ℕ). new ++ bs) (decoded (take (length text - 2) (drop 2 text)))
-one_more [] front new v whole e k n = absurd (no_value v e)
-one_more (a ∷ []) front new v whole e k n = absurd (no_value v (e ∙ no_low (digit_value a)))
+one_more [] front new v whole e k n = absurd cc
+one_more (a ∷ []) front new v whole e k n = let none : Some v ≡ None = e ∙ no_low (digit_value a) in absurd cc
 one_more (a ∷ (b ∷ text)) front new v whole e k n =
     let rest : take (length (a ∷ (b ∷ text)) - 2) text ≡ text = take_all (length (a ∷ (b ∷ text)) - 2) text (omega arith) in
     k ∙ ap (λ (o : Option ℕ). option_map (λ (bs : List ℕ). front ++ bs) (with_byte o (decoded text))) (sym e)
