@@ -1,5 +1,5 @@
 -- The counts of a sheet that begins with them move as the action says.
-use Rattle.std.proofs.Common.{◌≡◌, ℕ, ◌+◌, ◌%◌, ◌^◌, List, ◌++◌, map, length, refl, arith}
+use Rattle.std.proofs.Common.{◌≡◌, ℕ, ◌+◌, ◌%◌, ◌^◌, List, [], ◌++◌, map, length, sym, refl, ap, ◌∙◌, append-nil, arith}
 use native.Mathlib.Nat.{mod-mod}
 use Rattle.job.specs.Actions.{Act, row, advance, bars, total_cut, partial_cut, pulse, beep, reply}
 use Rattle.mechanism.specs.Counts.{counted, first_seven, leading_counts}
@@ -24,3 +24,7 @@ move s rest partial_cut = simp added
 move s rest pulse = simp added
 move s rest beep = simp added
 move s rest (reply r) = simp added
+
+-- with nothing behind them
+pub alone : (s : List ℕ) (a : Act) → leading_counts (counted (first_seven s) a) ≡ counted (leading_counts s) a
+alone s a = ap leading_counts (sym (append-nil (counted (first_seven s) a))) ∙ move s [] a

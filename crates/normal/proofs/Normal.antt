@@ -12,8 +12,7 @@ use Rattle.action_text.specs.Needs.{text_need}
 use Rattle.runs.specs.declared.fault.FeedFault.TheVariants.{Command, Mechanism}
 use Rattle.runs.specs.Outcomes.{Outcome}
 use Rattle.runs.proofs.Steps.{acts_join}
-use Rattle.writer.specs.declared.writer.Writer.{Writer}
-use Rattle.writer.specs.Writers.{Begins}
+use Rattle.writer.specs.Writers.{Writer, Begins}
 use Rattle.normal.specs.declared.answer.NormaliseFault.{NormaliseFault}
 use Rattle.normal.specs.declared.answer.NormaliseFault.TheVariants.{StreamTooLong, Feed}
 use Rattle.normal.specs.Fitting.{Fit, room}

@@ -9,8 +9,7 @@ use Rattle.runs.specs.Outcomes.{Outcome}
 use Rattle.runs.specs.Calls.{Call}
 use Rattle.runs.specs.Stands.{View, Stands, viewed}
 use Rattle.runs.proofs.Standing.{new_stands}
-use Rattle.writer.specs.declared.writer.Writer.{Writer}
-use Rattle.writer.specs.Writers.{writer_rule, Begins}
+use Rattle.writer.specs.Writers.{Writer, writer_rule, Begins}
 use Rattle.normal.specs.declared.answer.NormaliseFault.{NormaliseFault}
 use Rattle.normal.specs.declared.answer.NormaliseFault.TheVariants.{StreamTooLong, Feed}
 use Rattle.normal.specs.Fitting.{room}

@@ -7,8 +7,7 @@ use Rattle.mechanism.specs.Mechanisms.{Taken}
 use Rattle.mechanism.proofs.Appending.{next}
 use Rattle.action_text.specs.Needs.{text_need}
 use Rattle.runs.specs.Offers.{Chain}
-use Rattle.writer.specs.declared.writer.Writer.{Writer}
-use Rattle.writer.specs.Writers.{writer_reserve, Took}
+use Rattle.writer.specs.Writers.{Writer, writer_reserve, Took}
 use Rattle.normal.specs.Fitting.{Fit}
 
 -- the texts of the actions follow what was written, and each of them found the room it needs

@@ -8,8 +8,7 @@ use Rattle.mechanism.specs.Counts.{leading_counts}
 use Rattle.action_text.specs.Needs.{text_need}
 use Rattle.runs.specs.Outcomes.{Outcome}
 use Rattle.runs.specs.Whole.{Passes}
-use Rattle.writer.specs.declared.writer.Writer.{Writer}
-use Rattle.writer.specs.Writers.{writer_reserve, writer_rule, writer_sheet, Stays, Took}
+use Rattle.writer.specs.Writers.{Writer, writer_reserve, writer_rule, writer_sheet, Stays, Took}
 use Rattle.writer.specs.Lawful.{lawful}
 use Rattle.normal.specs.declared.answer.NormaliseFault.{NormaliseFault}
 use Rattle.normal.specs.declared.answer.NormaliseFault.TheVariants.{StreamTooLong, Feed}

@@ -1,9 +1,8 @@
 -- The odd mechanism keeps the laws of mechanisms.
-use Rattle.std.specs.Prelude.{◌≡◌, ℕ, ◌≤◌, List, [], drop}
+use Rattle.std.specs.Prelude.{◌≤◌, drop}
 use Rattle.std.proofs.Common.{arith}
 use Rattle.job.specs.Actions.{Act, row, advance, bars, total_cut, partial_cut, pulse, beep, reply}
 use Rattle.job.specs.Orderable.{Orderable}
-use Rattle.mechanism.specs.Counts.{counted}
 use Rattle.mechanism.specs.Mechanisms.{Laws, need_limit}
 use Rattle.mechanism.proofs.Counting as counting
 use Rattle.odd_mechanism.specs.Odd.{backwards, odd_counts, odd_need, odd_rule, odd_sheet, Took}
@@ -18,21 +17,11 @@ need_bounded pulse h = omega arith
 need_bounded beep h = omega arith
 need_bounded (reply r) h = omega arith
 
-counts_move : (s : List ℕ) (a : Act) → odd_counts (odd_rule s a) ≡ counted (odd_counts s) a
-counts_move s (row cells) = counting.move (backwards (drop 1 s)) [] (row cells)
-counts_move s (advance n) = counting.move (backwards (drop 1 s)) [] (advance n)
-counts_move s (bars kind width height shown t) = counting.move (backwards (drop 1 s)) [] (bars kind width height shown t)
-counts_move s total_cut = counting.move (backwards (drop 1 s)) [] total_cut
-counts_move s partial_cut = counting.move (backwards (drop 1 s)) [] partial_cut
-counts_move s pulse = counting.move (backwards (drop 1 s)) [] pulse
-counts_move s beep = counting.move (backwards (drop 1 s)) [] beep
-counts_move s (reply r) = counting.move (backwards (drop 1 s)) [] (reply r)
-
 pub lawful : Laws odd_sheet (λ m. m.reserve) (λ m. m.stopped) odd_need odd_rule odd_counts Took
 lawful = record {
   seven_counts = λ s. counting.seven (backwards (drop 1 s));
   counts_modulo = λ s. counting.modulo (backwards (drop 1 s));
-  counts_move = counts_move;
+  counts_move = λ s. counting.alone (backwards (drop 1 s));
   need_bounded = need_bounded;
   reserve_bounded = λ m. m.bounded;
   took_moves = λ m a n t. record {

@@ -1,5 +1,6 @@
 use crate::odd::OddMechanism;
 use action::actions::Action;
+use mechanism::fault::Fault;
 use mechanism::mechanism::Mechanism;
 use reading::Reply;
 use std::test::Fail;
@@ -8,11 +9,7 @@ use std::test::Fail;
 #[test]
 fn stopped_until_closed(rt: HostRuntime) -> Result<(), Fail> {
     let mut m = OddMechanism::new();
-    let Err(fault) = m.act(&Action::Beep) else {
-        assert!(rt; false);
-        return Ok(());
-    };
-    assert!(rt; fault.number() == 4);
+    assert!(rt; m.act(&Action::Beep) == Err(Fault::Stopped));
     assert!(rt; m.act(&Action::Reply(Reply::Identity)).is_ok());
     m.cover(false);
     assert!(rt; m.act(&Action::Beep).is_ok());

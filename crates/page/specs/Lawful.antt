@@ -6,5 +6,5 @@ use Rattle.page.specs.Pictures.{page_need}
 use Rattle.page.specs.Pages.{page_reserve, page_rule, page_sheet, Took}
 use Rattle.page.specs.Formed.{form_laws}
 
-pub lawful : Laws page_sheet page_reserve (λ p. p.stopped) page_need page_rule leading_counts Took
+abbrev pub lawful : Laws page_sheet page_reserve (λ p. p.stopped) page_need page_rule leading_counts Took
 lawful = recorder.lawful form_laws

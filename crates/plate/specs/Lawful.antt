@@ -1,9 +1,9 @@
 -- The plate keeps the laws of mechanisms.
-use Rattle.std.specs.Prelude.{ℕ, ◌≤◌, ◌≡◌, List, []}
-use Rattle.std.proofs.Common.{sym, ap, ◌∙◌, append-nil, arith}
+use Rattle.std.specs.Prelude.{◌≤◌}
+use Rattle.std.proofs.Common.{arith}
 use Rattle.job.specs.Actions.{Act, row, advance, bars, total_cut, partial_cut, pulse, beep, reply}
 use Rattle.job.specs.Orderable.{Orderable}
-use Rattle.mechanism.specs.Counts.{counted, leading_counts}
+use Rattle.mechanism.specs.Counts.{leading_counts}
 use Rattle.mechanism.specs.Mechanisms.{Laws, need_limit}
 use Rattle.mechanism.proofs.Counting as counting
 use Rattle.plate.specs.Plates.{plate_need, plate_rule, plate_sheet, Took}
@@ -18,14 +18,11 @@ need_bounded pulse h = omega arith
 need_bounded beep h = omega arith
 need_bounded (reply r) h = omega arith
 
-counts_move : (s : List ℕ) (a : Act) → leading_counts (plate_rule s a) ≡ counted (leading_counts s) a
-counts_move s a = ap leading_counts (sym (append-nil (plate_rule s a))) ∙ counting.move s [] a
-
 pub lawful : Laws plate_sheet (λ p. p.reserve) (λ p. p.stopped) plate_need plate_rule leading_counts Took
 lawful = record {
   seven_counts = counting.seven;
   counts_modulo = counting.modulo;
-  counts_move = counts_move;
+  counts_move = counting.alone;
   need_bounded = need_bounded;
   reserve_bounded = λ p. omega (arith, p.stored);
   took_moves = λ p a q t. record {

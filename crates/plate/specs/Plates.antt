@@ -1,11 +1,12 @@
 -- The plate: its sheet is its counts.
 use Rattle.std.specs.Prelude.{ℕ, ◌+◌, ◌-◌, min, ◌≡◌, false, List, [], replicate}
 use Rattle.job.specs.Actions.{Act, row, advance, bars, total_cut, partial_cut, pulse, beep, reply}
+use Rattle.short.specs.Short.{listed}
 use Rattle.mechanism.specs.Counts.{counted, first_seven, tally}
 use Rattle.mechanism.specs.Statuses.{status_of}
 use Rattle.plate.specs.declared.plate.Plate.{Plate}
 use Rattle.plate.specs.Paper.{paper_limit}
-use Rattle.plate.specs.Replies.{latest_after, latest_bytes}
+use Rattle.plate.specs.Replies.{latest_after}
 
 -- an advance needs its steps, all else nothing
 abbrev pub plate_need : Act → ℕ
@@ -24,8 +25,9 @@ plate_rule s a = counted (first_seven s) a
 abbrev pub plate_sheet : Plate → List ℕ
 plate_sheet p = tally p.counts
 
+-- the bytes of the latest reply; none if there was no reply yet
 abbrev pub plate_latest : Plate → List ℕ
-plate_latest p = latest_bytes p.latest
+plate_latest p = listed p.latest
 
 -- as much of an offer as leaves the reserve within the limit
 abbrev pub plate_grant : Plate → ℕ → ℕ

@@ -1,10 +1,9 @@
 -- What the plate answers to the host.
-use Rattle.std.specs.Prelude.{ℕ, List, [], ◌∷◌, ◌++◌, codes, take}
+use Rattle.std.specs.Prelude.{ℕ, List, [], ◌∷◌, ◌++◌, codes}
 use Rattle.reading.specs.declared.Reply.{Reply}
 use Rattle.reading.specs.declared.Reply.TheVariants.{Status1, Status2, Identity, Configuration, WrongCharacter, WrongLength, UnknownKind}
 use Rattle.job.specs.Actions.{Act, row, advance, bars, total_cut, partial_cut, pulse, beep, reply}
 use Rattle.mechanism.specs.declared.status.Status.{Status}
-use Rattle.plate.specs.declared.latest_reply.LatestReply.{LatestReply}
 
 -- a text with a carriage return
 abbrev pub line : List ℕ → List ℕ
@@ -30,6 +29,3 @@ latest_after latest status total_cut = latest
 latest_after latest status partial_cut = latest
 latest_after latest status pulse = latest
 latest_after latest status beep = latest
-
-abbrev pub latest_bytes : LatestReply → List ℕ
-latest_bytes r = take r.len r.bytes

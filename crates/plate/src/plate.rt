@@ -5,8 +5,8 @@ mod acts;
 ghost use Rattle.std.specs.Prelude.{◌≤◌};
 ghost use Rattle.plate.specs.Paper.{paper_limit};
 
-use crate::latest_reply::LatestReply;
 use mechanism::counts::Counts;
+use short::Short;
 
 /// A mechanism that counts what it does; its reserve is the paper, in steps.
 #[derive(Drop)]
@@ -14,6 +14,7 @@ pub struct Plate {
     counts: Counts,
     reserve: u32,
     stopped: bool,
-    latest: LatestReply,
+    /// The bytes of the latest reply; none if there was no reply yet.
+    latest: Short<7>,
     ghost stored: { reserve ≤ paper_limit },
 }

@@ -1,10 +1,8 @@
 -- The writer: a recorder of normal texts. Its sheet is its counts, and then the normal text of the actions taken.
-use Rattle.std.specs.Prelude.{ℕ, List, ◌++◌, drop}
+use Rattle.std.specs.Prelude.{ℕ, List}
 use Rattle.job.specs.Actions.{Act}
-use Rattle.job.specs.NormalText.{action_text}
-use Rattle.mechanism.specs.Counts.{counted, first_seven}
 use Rattle.recorder.specs.declared.recorder.Recorder.{Recorder}
-use Rattle.recorder.specs.Recorders.{recorder_reserve, recorder_sheet}
+use Rattle.recorder.specs.Recorders.{recorder_reserve, recorder_rule, recorder_sheet}
 use Rattle.recorder.specs.Recorders as recorder
 use Rattle.action_text.specs.Needs.{text_need}
 use Rattle.writer.specs.declared.writer.NormalText.{NormalText}
@@ -15,7 +13,7 @@ Writer = Recorder NormalText
 
 -- an action moves the counts, and its text follows those before
 abbrev pub writer_rule : List ℕ → Act → List ℕ
-writer_rule s a = counted (first_seven s) a ++ (drop 7 s ++ action_text a)
+writer_rule = recorder_rule text
 
 abbrev pub writer_sheet : Writer → List ℕ
 writer_sheet = recorder_sheet

@@ -1,3 +1,4 @@
+//! The odd mechanism acts.
 ghost use Rattle.std.specs.Prelude.{◌≡◌};
 ghost use Rattle.action.specs.Meanings.{act_of};
 ghost use Rattle.odd_mechanism.specs.Odd.{odd_counts, odd_grant, odd_need, odd_rule, odd_sheet, Begins, Took};
@@ -11,6 +12,7 @@ use mechanism::fault::Fault;
 use mechanism::mechanism::Mechanism;
 use mechanism::status::Status;
 
+/// Something for every action.
 fn need(action: &Action) -> u32
     ensures { result ≡ odd_need (act_of action.now) }
 {
@@ -26,12 +28,13 @@ fn need(action: &Action) -> u32
 }
 
 impl OddMechanism {
+    /// Stopped, at work, and one step before its advance count comes round.
     pub fn new() -> OddMechanism
         ensures { Begins result }
     {
         OddMechanism {
             counts: Counts {
-                advance: 0xFFFF_FFFF,
+                advance: u32::MAX,
                 rows: 2,
                 bars: 1,
                 cuts: 0,
@@ -81,7 +84,7 @@ impl Mechanism for OddMechanism {
     }
 
     fn supply(&mut self, offered: u32) -> u32 {
-        let grant = (offered / 2).min(0xFFFF_FFFF - self.reserve);
+        let grant = (offered / 2).min(u32::MAX - self.reserve);
         self.reserve += grant;
         grant
     }

@@ -3,9 +3,9 @@ ghost use Rattle.std.specs.Prelude.{◌≡◌};
 ghost use Rattle.mechanism.specs.Counts.{tally};
 ghost use Rattle.plate.specs.Plates.{plate_latest, plate_sheet, Begins};
 
-use crate::latest_reply::LatestReply;
 use crate::plate::Plate;
 use mechanism::counts::Counts;
+use short::Short;
 
 impl Plate {
     /// A plate without paper that has done nothing.
@@ -16,22 +16,25 @@ impl Plate {
             counts: Counts::new(),
             reserve: 0,
             stopped: false,
-            latest: LatestReply::new(),
+            latest: Short::new(),
         }
     }
 
+    /// The counts of the actions taken.
     pub fn counts(&self) -> Counts
         ensures { tally result ≡ plate_sheet self.now }
     {
         self.counts
     }
 
+    /// How many steps of paper are left.
     pub fn reserve(&self) -> u32
         ensures { result ≡ self.now.reserve }
     {
         self.reserve
     }
 
+    /// Whether its cover is open.
     pub fn is_stopped(&self) -> bool
         ensures { result ≡ self.now.stopped }
     {
@@ -42,6 +45,6 @@ impl Plate {
     pub fn latest_reply(&self) -> &[u8]
         ensures { result.now ≡ plate_latest self.now }
     {
-        self.latest.as_bytes()
+        self.latest.as_slice()
     }
 }

@@ -6,6 +6,7 @@ ghost use Rattle.plate.specs.Plates.{plate_grant, plate_latest, plate_need, plat
 ghost use Rattle.plate.specs.Lawful.{lawful};
 
 use crate::plate::Plate;
+use crate::replies::latest_after;
 use action::actions::Action;
 use mechanism::admission::admit;
 use mechanism::fault::Fault;
@@ -49,7 +50,7 @@ impl Mechanism for Plate {
     fn act(&mut self, action: &Action) -> Result<(), Fault> {
         let need = need(action);
         admit(action, need, self.reserve, self.stopped)?;
-        self.latest = self.latest.after(action, self.status());
+        self.latest = latest_after(self.latest, action, self.status());
         self.counts.add(action);
         self.reserve -= need;
         Ok(())
