@@ -1,11 +1,10 @@
 //! What the simulator prints.
 use job::settings::Cutter;
 use mechanism::counts::Counts;
-use page::page::Page;
 use plate::plate::Plate;
+use recorder::recorder::Recorder;
 use runs::fault::FeedFault;
 use settings::Settings;
-use writer::writer::Writer;
 
 /// What is shown of a mechanism.
 #[derive(Clone, Copy)]
@@ -36,20 +35,8 @@ impl Shown for Plate {
     }
 }
 
-// Page and writer are types of two crates; the words that they share here are fewer than a trait over both would need.
-impl Shown for Page<'_> {
-    fn gauges(&self) -> Gauges<'_> {
-        Gauges {
-            counts: self.counts(),
-            beyond: self.written(),
-            reserve: self.reserve(),
-            is_stopped: self.is_stopped(),
-            latest_reply: b"",
-        }
-    }
-}
-
-impl Shown for Writer<'_> {
+/// Page and writer.
+impl<F> Shown for Recorder<'_, F> {
     fn gauges(&self) -> Gauges<'_> {
         Gauges {
             counts: self.counts(),
