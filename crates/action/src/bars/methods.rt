@@ -28,7 +28,7 @@ fn filled_in(parameter: u8, default: u8, low: u8, high: u8) -> Option<u8>
 {
     match parameter {
         0 => Some(default),
-        n if low <= n && n <= high => Some(n),
+        n if (low..=high).contains(&n) => Some(n),
         _ => None,
     }
 }
