@@ -24,6 +24,7 @@ impl From<FeedFault> for NormaliseFault {
 
 impl NormaliseFault {
     /// The number under which the fault is reported.
+    // A method, since a reader of `fault.number()` sees what is meant, and of `u8::from(fault)` not.
     pub fn number(self) -> u8
         ensures { result ≡ number_of self }
     {

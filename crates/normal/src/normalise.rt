@@ -10,23 +10,16 @@ use station::whole::feed_whole;
 use stream::STREAM_MAX;
 use writer::writer::Writer;
 
-/// Feeds a stream to a writer through a new interpreter, and counts the commands passed over.
-fn write_text<'a>(
-    writer: &mut Writer<'a>,
-    stream: &[u8],
-    passed_over: &mut usize,
-) -> Result<(), NormaliseFault>
-    requires { passed_over.old ≡ 0 }
-    ensures { WritesText writer.old stream.now passed_over.new result writer.new }
+/// Feeds a stream to a writer through a new interpreter; answers how many commands were passed over, and how it ended.
+fn write_text(writer: &mut Writer, stream: &[u8]) -> (usize, Result<(), NormaliseFault>)
+    ensures { WritesText writer.old stream.now result.0 result.1 writer.new }
 {
     if stream.len() > STREAM_MAX {
-        return Err(NormaliseFault::StreamTooLong);
+        return (0, Err(NormaliseFault::StreamTooLong));
     }
     let mut interpreter = Interpreter::new();
     let fed = feed_whole(&mut interpreter, writer, stream);
-    *passed_over = fed.passed_over;
-    fed.outcome?;
-    Ok(())
+    (fed.passed_over, fed.outcome.map_err(NormaliseFault::from))
 }
 
 /// Writes the normal text of a stream into a buffer, and passes over refused commands.
@@ -35,11 +28,9 @@ pub fn normalise(stream: &[u8], out: &mut [u8]) -> Normalised
     ensures stands { StandsBehindFeeds stream.now out.old result out.new }
 {
     let mut writer = Writer::new(out);
-    let mut passed_over = 0;
-    let outcome = write_text(&mut writer, stream, &mut passed_over);
-    let written = writer.len();
+    let (passed_over, outcome) = write_text(&mut writer, stream);
     Normalised {
-        written,
+        written: writer.len(),
         passed_over,
         outcome,
     }
