@@ -1,11 +1,14 @@
 //! Writes the normal text of a stream.
-ghost use Rattle.std.specs.Prelude.{◌≡◌, false};
+ghost use Rattle.std.specs.Prelude.{◌≡◌, false, Err, IsOk, MatchResult};
+ghost use Rattle.runs.specs.declared.fault.FeedFault.{FeedFault};
+ghost use Rattle.normal.specs.declared.answer.NormaliseFault.TheVariants.{Feed};
 ghost use Rattle.normal.specs.Normalises.{Normalises};
 ghost use Rattle.normal.specs.Runs.{StandsBehindFeeds};
 ghost use Rattle.normal.specs.Written.{WritesText};
 
 use crate::answer::{NormaliseFault, Normalised};
 use interpreter::Interpreter;
+use runs::fault::FeedFault;
 use station::whole::feed_whole;
 use stream::STREAM_MAX;
 use writer::writer::Writer;
@@ -19,7 +22,14 @@ fn write_text(writer: &mut Writer, stream: &[u8]) -> (usize, Result<(), Normalis
     }
     let mut interpreter = Interpreter::new();
     let fed = feed_whole(&mut interpreter, writer, stream);
-    (fed.passed_over, fed.outcome.map_err(NormaliseFault::from))
+    (fed.passed_over, ended(fed.outcome))
+}
+
+/// How a feed's end is told: its fault names the layer below.
+fn ended(outcome: Result<(), FeedFault>) -> Result<(), NormaliseFault>
+    ensures { MatchResult result (λ _. IsOk outcome) (λ fault. (f : FeedFault) × (outcome ≡ Err f) × (fault ≡ Feed f)) }
+{
+    Ok(outcome?)
 }
 
 /// Writes the normal text of a stream into a buffer, and passes over refused commands.
