@@ -1,10 +1,10 @@
 -- The open row, as it grows and closes.
-use Rattle.std.proofs.Common.{◌≡◌, ℕ, zero, suc, ◌+◌, ◌-◌, ◌<◌, ◌≤◌, Bool, true, false, cond, ◌&&◌, List, [], ◌∷◌, ◌++◌, map, length, take, drop, set, replicate, sym, refl, ap, ◌∙◌, subst, arith, length-append, length-drop, length-set}
+use Rattle.std.proofs.Common.{◌≡◌, ℕ, zero, suc, ◌+◌, ◌-◌, ◌<◌, ◌≤◌, Bool, true, false, cond, ◌&&◌, List, [], ◌∷◌, ◌++◌, map, length, get_or, take, drop, set, replicate, sym, refl, ap, ◌∙◌, subst, arith, length-append, length-drop, length-set}
 use mathlib.Core.Logic.{∥∥₁_map}
 use lib.ListN.{length-replicate}
 use Rattle.std.proofs.Math.Bool.{and-true}
 use Rattle.std.proofs.lemmas.Bool.{cond-false}
-use Rattle.std.proofs.lemmas.List.{append_assoc, take_more_set, take-take, map-append, drop-replicate, length-map, length-take-le}
+use Rattle.std.proofs.lemmas.List.{append_assoc, take-append-drop, take_all, take_more_set, take-take, map_more, drop-set-lt, drop-drop, drop-replicate, length-map, length-take-le}
 use Rattle.reading.specs.Tests.{every}
 use Rattle.reading.specs.Reading.{is_text}
 use Rattle.job.specs.declared.cells.Attributes.{Attributes}
@@ -19,22 +19,31 @@ use Rattle.job.proofs.Columns.{closed_orderable, laid_append, laid_cells, laid_s
 use Rattle.action.specs.declared.open_row.OpenRow.{OpenRow}
 use Rattle.action.specs.Columns.{columns}
 
-blanks_closed : (n : ℕ) → map closed_cell (replicate n Blank) ≡ replicate n Blank
-blanks_closed zero = refl
-blanks_closed (suc n) = ap (λ (xs : List Cell). Blank ∷ xs) (blanks_closed n)
+-- the first n columns of `cells` are those of xs, closed, and the others are blank
+pub record Closed (n : ℕ) (xs cells : List Cell) : Type 0 where
+  pub front : take n cells ≡ map closed_cell (take n xs)
+  pub back : drop n cells ≡ replicate (48 - n) Blank
+  pub long : length cells ≡ 48
 
--- columns put at the front of a blank row
-module _ (n : ℕ) (xs cells : List Cell) (e : cells ≡ xs) (k : length xs ≡ n) (h : n ≤ 48) where
-  pub fronted_long : length (cells ++ drop n (replicate 48 Blank)) ≡ 48
-  fronted_long = simp (length-append, length-drop, length-replicate) (omega (arith, ap (λ (ys : List Cell). length ys) e))
+pub closed_more : (i : ℕ) (xs cells : List Cell) (d y : Cell) → i < length xs → length xs ≤ 48 → Closed i xs cells → y ≡ closed_cell (get_or xs i d)
+    → Closed (i + 1) xs (set cells i y)
+closed_more i xs cells d y h l s at_i =
+    let m : map closed_cell (take (i + 1) xs) ≡ map closed_cell (take i xs) ++ y ∷ [] =
+    map_more closed_cell xs i d h ∙ ap (λ (z : Cell). map closed_cell (take i xs) ++ z ∷ []) (sym at_i) in
+    let hl : i < length cells = omega (arith, s.long) in
+    record {
+      front = take_more_set cells i y hl ∙ (ap (λ (zs : List Cell). zs ++ y ∷ []) s.front ∙ sym m);
+      back = drop-set-lt (i + 1) cells i y (omega arith) ∙ (sym (drop-drop 1 i cells) ∙ (ap (drop 1) s.back ∙ (drop-replicate 1 (48 - i) Blank ∙ ap (λ (k : ℕ). replicate k Blank) (omega arith))));
+      long = simp length-set s.long;
+    }
 
-  pub fronted_closed : map closed_cell (cells ++ drop n (replicate 48 Blank)) ≡ padded (map closed_cell xs)
-  fronted_closed =
-      map-append closed_cell cells (drop n (replicate 48 Blank))
-      ∙ (ap (λ (ys : List Cell). map closed_cell cells ++ map closed_cell ys) (drop-replicate n 48 Blank)
-      ∙ (ap (λ (ys : List Cell). map closed_cell cells ++ ys) (blanks_closed (48 - n))
-      ∙ (ap (λ (ys : List Cell). map closed_cell ys ++ replicate (48 - n) Blank) e
-      ∙ ap (λ (m : ℕ). map closed_cell xs ++ replicate (48 - m) Blank) (sym (length-map xs closed_cell ∙ k)))))
+pub closed_all : (n : ℕ) (xs cells : List Cell) → n ≡ length xs → Closed n xs cells → cells ≡ padded (map closed_cell xs)
+closed_all n xs cells e s =
+    let all : take n xs ≡ xs = take_all n xs (omega (arith, e)) in
+    let front : take n cells ≡ map closed_cell xs = s.front ∙ ap (λ (ys : List Cell). map closed_cell ys) all in
+    let back : drop n cells ≡ replicate (48 - length (map closed_cell xs)) Blank =
+    s.back ∙ ap (λ (k : ℕ). replicate (48 - k) Blank) (e ∙ sym (length-map xs closed_cell)) in
+    sym (take-append-drop n cells) ∙ (cc (front, back))
 
 blanks_blank : (n : ℕ) → every is_blank (replicate n Blank) ≡ true
 blanks_blank zero = refl

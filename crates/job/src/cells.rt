@@ -57,7 +57,7 @@ impl Cell {
     pub fn is_blank(self) -> bool
         ensures { result ≡ is_blank self }
     {
-        self == Cell::Blank
+        matches!(self, Cell::Blank)
     }
 
     /// The second column of a wide character.

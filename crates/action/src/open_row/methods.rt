@@ -122,8 +122,11 @@ impl OpenRow {
     fn closed_cells(&self) -> [Cell; 48]
         ensures { result ≡ padded (map closed_cell (columns self.now)) }
     {
+        let columns = self.as_slice();
         let mut cells = [Cell::Blank; 48];
-        cells[..self.len as usize].copy_from_slice(self.as_slice());
-        cells.map(Cell::closed)
+        for (i, cell) in columns.iter().enumerate() {
+            cells[i] = cell.closed();
+        }
+        cells
     }
 }

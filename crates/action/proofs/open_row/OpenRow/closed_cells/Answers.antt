@@ -1,14 +1,16 @@
-use Rattle.std.proofs.Common.{◌∙◌, rules, tests}
-use Rattle.job.specs.declared.cells.Cell.TheVariants.{Blank}
-use Rattle.job.specs.Row.{closed_cell}
+use Rattle.std.proofs.Common.{◌≡◌, ◌≤◌, length, map, ap, ◌∙◌, arith}
+use Rattle.job.specs.Row.{closed_cell, padded}
 use Rattle.action.specs.Columns.{columns}
-use Rattle.action.proofs.Lists.{mapped}
-use Rattle.action.proofs.Rows.{columns_length, fronted_long, fronted_closed}
+use Rattle.action.proofs.Rows.{closed_more, closed_all, columns_length}
 use Rattle.action.proofs.open_row.OpenRow.closed_cells.Goals as goal
+
+pub loop-i-preserved : goal.loop-i-preserved
+loop-i-preserved c =
+    let r = c.args.self.now in
+    let few : length c.as_slice-columns.result.now ≤ 48 = rw c.as_slice-columns.ensures (omega (arith, columns_length r, r.within)) in
+    closed_more _ _ _ _ _ c.loop-i-test.true few c.loop-i.invariant c.closed.ensures
 
 pub returns : goal.returns
 returns c =
-    let r = c.args.self.now in
-    let front = c.copy_from_slice.ensures.after ∙ c.as_slice.ensures in
-    mapped closed_cell Blank c.map.ensures.items (fronted_long r.len (columns r) _ front (columns_length r) r.within) (λ x y p q k. search (rules, tests))
-    ∙ fronted_closed r.len (columns r) _ front (columns_length r) r.within
+    let all = closed_all c.loop-i.i c.as_slice-columns.result.now c.loop-i.cells (omega (arith, c.loop-i-test.false, c.loop-i.auto.i-end)) c.loop-i.invariant in
+    all ∙ ap (λ xs. padded (map closed_cell xs)) c.as_slice-columns.ensures
