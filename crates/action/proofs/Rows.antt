@@ -1,8 +1,7 @@
 -- The open row, as it grows and closes.
-use Rattle.std.proofs.Common.{◌≡◌, ℕ, zero, suc, ◌+◌, ◌-◌, ◌<◌, ◌≤◌, Bool, true, false, cond, ◌&&◌, List, [], ◌∷◌, ◌++◌, map, length, get_or, take, drop, set, replicate, sym, refl, ap, ◌∙◌, subst, arith, length-append, length-drop, length-set}
+use Rattle.std.proofs.Common.{◌≡◌, ℕ, ◌+◌, ◌-◌, ◌<◌, ◌≤◌, Bool, true, false, cond, List, [], ◌∷◌, ◌++◌, map, length, get_or, take, drop, set, replicate, sym, ap, ◌∙◌, subst, arith, length-set}
 use mathlib.Core.Logic.{∥∥₁_map}
-use lib.ListN.{length-replicate}
-use Rattle.std.proofs.Math.Bool.{and-true}
+use Rattle.std.proofs.Math.Seq.{take-append_seam}
 use Rattle.std.proofs.lemmas.Bool.{cond-false}
 use Rattle.std.proofs.lemmas.List.{append_assoc, take-append-drop, take_all, take_more_set, take-take, map_more, drop-set-lt, drop-drop, drop-replicate, length-map, length-take-le}
 use Rattle.reading.specs.Tests.{every}
@@ -14,7 +13,6 @@ use Rattle.job.specs.Actions.{row}
 use Rattle.job.specs.Row.{closed_cell, is_blank, padded, closing, cells_of, width_of, last_width}
 use Rattle.job.specs.Orderable.{LaidOut, Orderable}
 use Rattle.job.specs.Invariants.{TextCharacter}
-use Rattle.job.proofs.Every.{every_append}
 use Rattle.job.proofs.Columns.{closed_orderable, laid_append, laid_cells, laid_shortened}
 use Rattle.action.specs.declared.open_row.OpenRow.{OpenRow}
 use Rattle.action.specs.Columns.{columns}
@@ -45,21 +43,18 @@ closed_all n xs cells e s =
     s.back ∙ ap (λ (k : ℕ). replicate (48 - k) Blank) (e ∙ sym (length-map xs closed_cell)) in
     sym (take-append-drop n cells) ∙ (cc (front, back))
 
-blanks_blank : (n : ℕ) → every is_blank (replicate n Blank) ≡ true
-blanks_blank zero = refl
-blanks_blank (suc n) = blanks_blank n
-
--- columns are all blank exactly if they are with blanks behind them
-padded_blank : (n : ℕ) (xs : List Cell) → every is_blank (xs ++ replicate n Blank) ≡ every is_blank xs
-padded_blank n xs = every_append is_blank xs (replicate n Blank) ∙ (ap (λ (b : Bool). every is_blank xs && b) (blanks_blank n) ∙ and-true (every is_blank xs))
-
 pub columns_length : (r : OpenRow) → length (columns r) ≡ r.len
 columns_length r = length-take-le r.len r.cells (omega (arith, r.within, r.sized))
 
 -- closed columns of which some are not blank are the row that closing orders
-module _ (r : OpenRow) (cells : List Cell) (e : cells ≡ padded (map closed_cell (columns r))) (f : every is_blank cells ≡ false) where
+module _ (r : OpenRow) (cells : List Cell) (e : cells ≡ padded (map closed_cell (columns r))) (f : every is_blank (take r.len cells) ≡ false) where
+  front : take r.len cells ≡ map closed_cell (columns r)
+  front =
+      let n : length (map closed_cell (columns r)) ≡ r.len = length-map (columns r) closed_cell ∙ columns_length r in
+      ap (λ (zs : List Cell). take r.len zs) e ∙ (ap (λ (k : ℕ). take k (padded (map closed_cell (columns r)))) (sym n) ∙ take-append_seam (map closed_cell (columns r)) _)
+
   shown : every is_blank (map closed_cell (columns r)) ≡ false
-  shown = sym (padded_blank _ (map closed_cell (columns r))) ∙ (ap (λ (zs : List Cell). every is_blank zs) (sym e) ∙ f)
+  shown = ap (λ (zs : List Cell). every is_blank zs) (sym front) ∙ f
 
   pub closed_ok : ∥ Orderable (row cells) ∥₁
   closed_ok =

@@ -111,7 +111,7 @@ impl OpenRow {
         ensures { row_acts result ≡ closing (columns self.now) }
     {
         let cells = self.closed_cells();
-        if all_blank(&cells) {
+        if all_blank(&cells[..self.len as usize]) {
             None
         } else {
             Some(Row { cells })

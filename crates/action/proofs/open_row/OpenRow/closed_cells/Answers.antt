@@ -1,6 +1,5 @@
-use Rattle.std.proofs.Common.{◌≡◌, ◌≤◌, length, map, ap, ◌∙◌, arith}
+use Rattle.std.proofs.Common.{◌≤◌, length, map, ap, ◌∙◌, arith}
 use Rattle.job.specs.Row.{closed_cell, padded}
-use Rattle.action.specs.Columns.{columns}
 use Rattle.action.proofs.Rows.{closed_more, closed_all, columns_length}
 use Rattle.action.proofs.open_row.OpenRow.closed_cells.Goals as goal
 
