@@ -11,7 +11,6 @@ use printer::Printer;
 use reader::read_state::{Meaning, Reading};
 use reading::Refusal;
 use settings::Settings;
-use std::mem;
 
 impl Interpreter {
     /// Text is read, the printer is new, and nothing is owed.
@@ -44,12 +43,21 @@ impl Interpreter {
         requires { owes self.old ≡ [] }
         ensures { step_of result self.new ≡ step (state_of self.old) byte }
     {
-        // Text is read behind each byte, unless more of a command is to come.
-        match mem::replace(&mut self.reading, Reading::Text).meaning(byte)? {
-            Meaning::More(reading) => self.reading = reading,
-            Meaning::Done(command) => self.printer.carry_out(command, &mut self.owed)?,
+        // Each arm says what is read next: taken out by `mem::replace`, with `?` behind it, what is read makes a byte half as slow again.
+        match self.reading.meaning(byte) {
+            Ok(Meaning::More(reading)) => {
+                self.reading = reading;
+                Ok(())
+            }
+            Ok(Meaning::Done(command)) => {
+                self.reading = Reading::Text;
+                self.printer.carry_out(command, &mut self.owed)
+            }
+            Err(why) => {
+                self.reading = Reading::Text;
+                Err(why)
+            }
         }
-        Ok(())
     }
 
     /// The settings behind the bytes taken, within their bounds; attributes, one-line width and line number are among them.

@@ -124,6 +124,7 @@ impl OpenRow {
     {
         let columns = self.as_slice();
         let mut cells = [Cell::Blank; 48];
+        // By index: an array's `map` runs over all 48 columns, and nothing would be known of cells written through `iter_mut`.
         for (i, cell) in columns.iter().enumerate() {
             cells[i] = cell.closed();
         }
