@@ -20,7 +20,7 @@ pub fn all_blank(cells: &[Cell]) -> bool
 pub fn laid_out(cells: &[Cell]) -> bool
     ensures { result ≡ laid_behind Blank cells.now }
 {
-    // each column is tested by the one before it, and the last of them once more: a chain would have to carry both
+    // A loop: each column stands against the one before it, and a chain of pairs would have to ask for the last one's tail apart.
     let mut before = Cell::Blank;
     for cell in cells {
         if !follows(before, *cell) {

@@ -21,7 +21,7 @@ pub fn judge(kind: Option<BarKind>, string: &[u8]) -> Result<(), BarFault>
 fn right_characters(kind: BarKind, string: &[u8]) -> bool
     ensures { result ≡ right_characters kind string.now }
 {
-    // a rule of the station: a loop over the bytes with their index, each against the set of its kind
+    // By index, so that each byte stands against the set of its kind at its place: Codabar has a set of its own for its ends.
     for (place, c) in string.iter().enumerate() {
         if !right_character(kind, string.len(), place, *c) {
             return false;

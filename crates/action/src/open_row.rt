@@ -19,7 +19,8 @@ pub enum NotPut {
 /// The columns before the position: a tail exactly behind each wide character, and only text bytes.
 #[derive(Clone, Copy)]
 pub struct OpenRow {
-    // the columns in place, with their count: a row is kept in fixed memory
+    // Fixed memory, and no `Short`, which lists bytes: a list generic over its elements would owe their size's bound at each type.
+    // No Model either: its view would forget the columns behind the count, and a row is copied.
     cells: [Cell; 48],
     len: u8,
     ghost sized: { length cells ≡ 48 },

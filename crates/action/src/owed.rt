@@ -80,6 +80,7 @@ impl Owed {
     }
 
     /// Replaces the advances: so many of so many steps each, or none if that is 0 steps.
+    // Numbers and no Option: every caller has a spacing or a parameter, of which 0 is allowed, and would make the Option of it.
     pub fn set_advances(&mut self, count: u8, steps: u8)
         ensures { Owes self.new (owed_row self.old) (advances_of count steps) (owed_other self.old) }
     {

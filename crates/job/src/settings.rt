@@ -25,6 +25,7 @@ pub struct Paper {
 pub struct Cutter {
     pub on: bool,
     /// A partial cut, not a total one.
+    // By itself, and no Option with `on`: it is kept and told while the cutter is off.
     pub partial: bool,
     /// Line feeds before a cut.
     pub lines: u8,

@@ -43,6 +43,7 @@ impl Bars {
     ) -> Result<Bars, Reply>
         ensures { Judged (verdict kind string.now) (bars_of kind size.width size.height shown string.now) result }
     {
+        // The kind is asked for once, by `judge`, so that all faults of a bar code are found in one place.
         judge(kind, string)?;
         Ok(Bars {
             kind: kind.unwrap(),
