@@ -5,9 +5,9 @@ ghost use Rattle.mechanism.specs.Refusals.{fault_number};
 #[derive(Clone, Copy, PartialEq, Eq)]
 pub enum Fault {
     /// The mechanism is stopped, and the action is no reply.
-    Stopped,
+    Stopped = 4,
     /// The reserve is below what the action needs.
-    ShortReserve,
+    ShortReserve = 5,
 }
 
 impl Fault {
@@ -16,9 +16,6 @@ impl Fault {
     pub fn number(self) -> u8
         ensures { result ≡ fault_number self }
     {
-        match self {
-            Fault::Stopped => 4,
-            Fault::ShortReserve => 5,
-        }
+        self as u8
     }
 }

@@ -44,11 +44,11 @@ pub enum ParameterCode {
 #[derive(Clone, Copy, PartialEq, Eq)]
 pub enum Refusal {
     /// A byte or pair that is not in the table.
-    UnknownCommand,
+    UnknownCommand = 1,
     /// A complete command with a parameter out of range or order.
-    OutOfRange,
+    OutOfRange = 2,
     /// A list of stops or a bar code's string past its length.
-    TooLong,
+    TooLong = 3,
 }
 
 impl Refusal {
@@ -57,11 +57,7 @@ impl Refusal {
     pub fn number(self) -> u8
         ensures { result ≡ refusal_number self }
     {
-        match self {
-            Refusal::UnknownCommand => 1,
-            Refusal::OutOfRange => 2,
-            Refusal::TooLong => 3,
-        }
+        self as u8
     }
 }
 

@@ -35,7 +35,7 @@ pub enum Token<'a> {
 #[derive(Clone, Copy, PartialEq, Eq, Debug)]
 pub enum TokenFault {
     /// The stream has more than 65,536 bytes.
-    StreamTooLong,
+    StreamTooLong = 6,
 }
 
 /// Why no line is written.
