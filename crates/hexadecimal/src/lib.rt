@@ -1,4 +1,5 @@
 //! Bytes written in hexadecimal, as listings, tests and scripts have them: two digits each, 0 to 9 and A to F, nothing between them.
+// Not the crate hex: it reads a to f too, and gives the digits A to F only in a String of their own; a line of a listing is written without a heap.
 #![tactic(auto)]
 
 ghost use Rattle.std.specs.Prelude.{◌≡◌, ◌<◌, ◌++◌, Some, MatchResult};
@@ -45,7 +46,7 @@ pub fn decode(heap: Global, text: &[u8]) -> Result<Vec<u8>, HexFault>
 {
     let mut bytes = Vec::new(heap);
     let mut rest = text;
-    // Chunks of two would be no plainer: an odd digit at the end has to be told from none, as the rest does.
+    // chunks_exact would need a second look, at its remainder, for an odd digit at the end; here that is what is left.
     while let [a, b, tail @ ..] = rest {
         bytes.push(byte(*a, *b).ok_or(HexFault::NotHexadecimal)?)?;
         rest = tail;

@@ -53,6 +53,7 @@ pub trait Mechanism {
         ensures { Supplied sheet reserve stopped grants stays self.old offered result self.new };
 
     /// The status bytes as at this moment.
+    // No body here: the trait asks for no reserve and no mark that code could read.
     fn status(&self) -> Status
         ensures { result ≡ status_of (reserve self.now) (stopped self.now) };
 }

@@ -2,13 +2,8 @@
 use Rattle.std.proofs.Common.{◌≡◌, ℕ, ◌+◌, ◌<◌, Bool, true, false, ◌&&◌, cond, ltb, List, [], ◌∷◌, map, None, Some, Option, MatchOption, option_map, sym, subst, refl, ap, arith}
 use Rattle.std.proofs.lemmas.Bool.Decides.{nat_tests}
 use Rattle.std.specs.List.{find, list_all, zip}
-use Rattle.reading.specs.Tests.{every}
 use Rattle.job.specs.Changes.{rising}
 use Rattle.job.specs.Row.{next_beyond}
-
-pub every_all : (f : ℕ → Bool) (xs : List ℕ) → every f xs ≡ list_all f xs
-every_all f [] = refl
-every_all f (x ∷ xs) = ap (λ (b : Bool). f x && b) (every_all f xs)
 
 -- each stop beside the one before it
 pub rising_pairs : (n : ℕ) (xs : List ℕ) → rising n xs ≡ list_all (λ p. ltb p.0 p.1) (zip (n ∷ xs) xs)

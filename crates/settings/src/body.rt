@@ -30,6 +30,7 @@ pub fn read_body(body: &[u8; 40]) -> Option<BodySettings>
 }
 
 /// Off or on.
+// Digits here, numbers in a command: one function of both would take the two values.
 fn switch(byte: u8) -> Option<bool>
     ensures { MatchOption result (one_of (0x30 ∷ 0x31 ∷ []) byte ≡ false) (λ on. (one_of (0x30 ∷ 0x31 ∷ []) byte ≡ true) × (on ≡ (byte == 0x31))) }
 {

@@ -13,6 +13,7 @@ use job::settings::{Cutter, Margins, Paper};
 use stops::{HorizontalStops, VerticalStops};
 
 /// What commands set. Its bounds belong to the struct, so rows and tabulation need no test of them.
+// No Model: its view would forget the bytes behind the stops, and such a type cannot be Copy.
 #[derive(Clone, Copy)]
 pub struct Settings {
     attributes: Attributes,

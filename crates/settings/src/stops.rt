@@ -11,6 +11,7 @@ use short::Short;
 use std::iter;
 
 /// At most N stops that rise, each from 1 to MOST.
+// No Model: its view would forget the bytes behind the last stop, and such a type cannot be Copy.
 #[derive(Clone, Copy)]
 pub(crate) struct Stops<const N: usize, const MOST: u8> {
     places: Short<N>,

@@ -2,7 +2,7 @@ use Rattle.std.proofs.Common.{sym, ◌∙◌, rules, tests}
 use Rattle.std.proofs.lemmas.Iterator.{YieldsList-from_slice}
 use Rattle.std.proofs.lemmas.Iterator.Search.{all_from_yields_List}
 use Rattle.reading.specs.Tests.{between}
-use Rattle.settings.proofs.Lists.{every_all}
+use Rattle.job.proofs.Every.{every_all}
 use Rattle.settings.proofs.stops.reach.Goals as goal
 
 pub returns : goal.returns
