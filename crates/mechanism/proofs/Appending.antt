@@ -1,7 +1,7 @@
 -- Bytes written into a buffer, one after another.
 use Rattle.std.proofs.Common.{◌≡◌, ℕ, ◌+◌, ◌-◌, ◌≤◌, List, [], ◌++◌, length, take, drop, sym, ap, ◌∙◌, append_assoc, append-nil, arith, length-append, length-drop, length-take}
 use borrow.Rule.Slice.PartMut.{put_mid}
-use Rattle.std.proofs.lemmas.List.{take_at, drop_at, take_all, drop_all, drop-drop, take-append-drop}
+use Rattle.std.proofs.lemmas.List.{take_at, drop_at, take_rest, drop_all, drop-drop, take-append-drop}
 use Rattle.std.proofs.lemmas.Slice.{take-put_mid, drop-put_mid}
 use Rattle.mechanism.specs.Buffers.{Appended}
 
@@ -42,15 +42,11 @@ module _ (xs : List ℕ) (len : ℕ) (t : List ℕ) (n : ℕ) (ys : List ℕ) (h
     (a : Appended (take (length xs - len) (drop len xs)) 0 t n ys) where
   whole : put_mid len (length xs - len) xs ys ≡ (take len xs ++ t) ++ drop (len + n) xs
   whole =
-      let long : length (drop len xs) ≤ length xs - len = simp length-drop (omega arith) in
       let part : ys ≡ t ++ drop (len + n) xs =
       sym (take-append-drop n ys) ∙ ap (λ p. p ++ drop n ys) a.front ∙ ap (λ p. t ++ p) a.rest
-      ∙ ap (λ p. t ++ drop n p) (take_all (length xs - len) (drop len xs) long) ∙ ap (λ p. t ++ p) (drop-drop n len xs) in
-      let past : drop (length xs - len) (drop len xs) ≡ [] = drop_all (length xs - len) (drop len xs) long in
-      ap (λ p. take len xs ++ (p ++ drop (length xs - len) (drop len xs))) part
-      ∙ ap (λ p. take len xs ++ ((t ++ drop (len + n) xs) ++ p)) past
-      ∙ ap (λ p. take len xs ++ p) (append-nil (t ++ drop (len + n) xs))
-      ∙ sym (append_assoc (take len xs) t (drop (len + n) xs))
+      ∙ ap (λ p. t ++ drop n p) (take_rest xs len) ∙ ap (λ p. t ++ p) (drop-drop n len xs) in
+      let past : drop (length xs - len) (drop len xs) ≡ [] = drop_all (length xs - len) (drop len xs) (simp length-drop (omega arith)) in
+      simp (part, past, append-nil, append_assoc)
 
   front : length (take len xs ++ t) ≡ len + n
   front = simp (length-append, length-take) (omega (arith, a.ends))
