@@ -54,6 +54,7 @@ fn count(text: &[u8], wanted: u8) -> usize {
 /// What line answers at a place with a buffer of so many bytes, and how many of these it leaves.
 fn try_line(rt: &HostRuntime, stream: &[u8], place: usize, room: usize) -> anyhow::Result<()> {
     let mut out = vec![in rt.alloc(); b'?'; room]?;
+    // 0 for no number, here and below, as the expected output has it.
     let (what, number) = match line(stream, place, &mut out) {
         Ok(Some(length)) => ("length", length),
         Ok(None) => ("nothing", 0),

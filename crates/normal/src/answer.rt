@@ -14,6 +14,7 @@ pub enum NormaliseFault {
     Feed(FeedFault),
 }
 
+// By hand, as runs' own: a derived From has no contract, and the clause of `ended` names the fault that a ? makes.
 impl From<FeedFault> for NormaliseFault {
     ghost from_gives = { λ fault r. r ≡ Feed fault };
 

@@ -15,6 +15,7 @@ pub struct Plate {
     reserve: u32,
     stopped: bool,
     /// The bytes of the latest reply; none if there was no reply yet.
+    // Empty and no Option: a reply has at least a byte, and all that is asked of the latest is its bytes.
     latest: Short<7>,
     ghost stored: { reserve ≤ paper_limit },
 }

@@ -21,7 +21,7 @@ impl Printer {
     }
 
     /// What is ordered is written where it is owed: in a result it would be copied at every byte.
-    // `owed` has no type of its own for nothing owed: that fact would have to hold again where the loan ends.
+    // That nothing is owed at first stands in the contract, not in a type: a loan gives back the type it was of, and by then something is owed.
     fn obey(&mut self, command: Command, owed: &mut Owed) -> Result<(), Refusal>
         ensures { CarriesAlone (command_of command) self.old owed.old result owed.new self.new }
     {

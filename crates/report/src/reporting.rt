@@ -19,6 +19,7 @@ pub struct Report {
 fn add_owed(lines: &mut Vec<u8>, interpreter: &mut Interpreter) -> Result<(), AllocError>
     ensures { MatchResult result (λ _. AddsOwed interpreter.old lines.old.items interpreter.new lines.new.items) (λ _. Unit) }
 {
+    // The walk of a station's settle: one of both would take a closure, and its contract would have to speak of what the closure holds.
     while let Some(action) = interpreter.owed().first() {
         add_line(lines, &action)?;
         interpreter.remove_first();
@@ -31,6 +32,7 @@ fn take_byte(interpreter: &mut Interpreter, stream: &[u8], index: usize) -> Opti
     requires { (owes interpreter.old ≡ []) × (index < length stream.now) }
     ensures { Takes stream.now index interpreter.old (refused_list result) interpreter.new }
 {
+    // An Option, where a station's feed has an error: a refused command ends nothing here, it is one more to tell of.
     match interpreter.step(stream, index) {
         Ok(()) => None,
         Err(StepFault::Refused(refusal, place)) => Some(RefusedCommand {

@@ -11,6 +11,7 @@ use settings::Settings;
 pub struct Gauges<'a> {
     pub counts: Counts,
     /// What its sheet has beyond the counts.
+    // Empty for nothing, here and in the latest reply: a reply has at least a byte, and all that is done with either is to print its bytes.
     pub beyond: &'a [u8],
     pub reserve: u32,
     pub is_stopped: bool,

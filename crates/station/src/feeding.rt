@@ -68,9 +68,11 @@ pub fn feed<M: Mechanism>(
     ensures course { Fed M.Mechanism interpreter.old mechanism.old piece.now result.0 result.1 interpreter.new mechanism.new }
     ensures stands { Extends M.Mechanism (fed piece.now result.0 result.1) interpreter.old mechanism.old interpreter.new mechanism.new }
 {
+    // A pair and no ? here: how many bytes were taken is told however the feed ends.
     if let Err(fault) = settle(interpreter, mechanism) {
         return (0, Err(FeedFault::from(fault)));
     }
+    // By index: a step takes the piece and an index, so that the places it tells count from the piece's start.
     for index in 0..piece.len() {
         if let Err(fault) = feed_byte(interpreter, mechanism, piece, index) {
             return (index + 1, Err(fault));

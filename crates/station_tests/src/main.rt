@@ -14,6 +14,7 @@ fn feed<M: Mechanism>(
     piece: &[u8],
 ) -> anyhow::Result<()> {
     let (taken, outcome) = station.feed(piece);
+    // 0 for no refusal, as the expected output has it.
     let number = outcome.err().map_or(0, |fault| fault.number());
     let owed = station.owed().len();
     println!(rt; "{name}: {taken} taken, refusal {number}, {owed} owed")?;

@@ -89,6 +89,7 @@ impl Mechanism for OddMechanism {
         grant
     }
 
+    // In each mechanism: a body in the trait would need two methods more there, since its reserve and its mark are ghost.
     fn status(&self) -> Status {
         Status::new(self.reserve, self.stopped)
     }

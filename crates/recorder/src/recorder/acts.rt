@@ -51,6 +51,7 @@ impl<'a, F: Form> Mechanism for Recorder<'a, F> {
         0
     }
 
+    // In each mechanism: a body in the trait would need two methods more there, since its reserve and its mark are ghost.
     fn status(&self) -> Status {
         Status::new(self.reserve(), self.stopped)
     }
