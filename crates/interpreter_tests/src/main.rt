@@ -2,7 +2,7 @@
 //! A row of the table: the stream in hexadecimal, its normal text in hexadecimal or - for none, how many commands are refused.
 #![tactic(auto)]
 
-use anyhow::anyhow;
+use anyhow::{Context, bail};
 use hexadecimal::decode;
 use interpreter::{Interpreter, StepFault};
 use reading::Refusal;
@@ -12,6 +12,7 @@ use std::mem::size_of;
 /// Takes all bytes of a stream, drops what they order, and counts the refused commands.
 fn refusals(stream: &[u8]) -> usize {
     let mut interpreter = Interpreter::new();
+    // By index: a step takes the stream and an index, so that the places it tells count from the stream's start.
     (0..stream.len())
         .filter(|index| take_byte(&mut interpreter, stream, *index).is_some())
         .count()
@@ -38,18 +39,18 @@ fn compare_table(rt: &HostRuntime) -> anyhow::Result<u32> {
     let mut rows = 0u32;
     for row in BufReader::new(rt.alloc(), rt.stdin())?.lines(rt.alloc()) {
         let row = row?;
-        let Some((stream, rest)) = row.split_once(' ') else {
-            return Err(anyhow!("a row of the table has no space"));
-        };
+        let (stream, rest) = row
+            .split_once(' ')
+            .context("a row of the table has no space")?;
         if stream == "#" {
             continue;
         }
-        let Some((_, expected)) = rest.split_once(' ') else {
-            return Err(anyhow!("a row of the table has no second space"));
-        };
+        let (_, expected) = rest
+            .split_once(' ')
+            .context("a row of the table has no second space")?;
         if refusals(&decode(rt.alloc(), stream.as_bytes())?) != expected.parse::<usize>()? {
             rt.eprintln(stream)?;
-            return Err(anyhow!("this stream's refused commands differ from the table"));
+            bail!("this stream's refused commands differ from the table");
         }
         rows = rows.saturating_add(1);
     }
@@ -60,6 +61,7 @@ fn compare_table(rt: &HostRuntime) -> anyhow::Result<u32> {
 fn show_refusals(rt: &HostRuntime, name: &str, pieces: &[&[u8]]) -> anyhow::Result<()> {
     let mut interpreter = Interpreter::new();
     for piece in pieces {
+        // By index, as above.
         for index in 0..piece.len() {
             if let Some((why, place)) = take_byte(&mut interpreter, piece, index) {
                 let number = why.number();

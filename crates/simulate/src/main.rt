@@ -8,12 +8,14 @@ use crate::script::{Call, Machine, Script, read_call, read_machine};
 use crate::show::{Shown, show_outcome, show_settings, show_state};
 use anyhow::Context;
 use mechanism::mechanism::Mechanism;
-use page::page::Page;
+use page::page::Picture;
 use plate::plate::Plate;
+use recorder::form::Form;
+use recorder::recorder::Recorder;
 use station::station::Station;
 use std::env;
 use std::process::ExitCode;
-use writer::writer::Writer;
+use writer::writer::NormalText;
 
 const USAGE: &str = "usage: simulate < SCRIPT
 
@@ -81,20 +83,24 @@ fn play<M: Mechanism + Shown + Drop>(
     Ok(None)
 }
 
+/// Plays the calls of one run on a recorder of the form F, with a buffer of this length.
+fn play_into<F: Form>(
+    rt: &HostRuntime,
+    script: &mut Script,
+    length: usize,
+) -> anyhow::Result<Option<String>> {
+    let mut buffer = vec![in rt.alloc(); 0u8; length]?;
+    play(rt, script, Recorder::<F>::new(&mut buffer))
+}
+
 /// Begins a run and plays it.
 fn begin(rt: &HostRuntime, script: &mut Script, line: &str) -> anyhow::Result<Option<String>> {
     let machine = read_machine(line)?.context("a script begins with a run")?;
     rt.println(line)?;
     match machine {
         Machine::Plate => play(rt, script, Plate::new()),
-        Machine::Page(length) => {
-            let mut buffer = vec![in rt.alloc(); 0u8; length]?;
-            play(rt, script, Page::new(&mut buffer))
-        }
-        Machine::Writer(length) => {
-            let mut buffer = vec![in rt.alloc(); 0u8; length]?;
-            play(rt, script, Writer::new(&mut buffer))
-        }
+        Machine::Page(length) => play_into::<Picture>(rt, script, length),
+        Machine::Writer(length) => play_into::<NormalText>(rt, script, length),
     }
 }
 
