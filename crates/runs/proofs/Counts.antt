@@ -2,7 +2,6 @@
 use Rattle.std.proofs.Common.{◌≡◌, ℕ, suc, ◌+◌, Bool, List, [], ◌∷◌, ◌++◌, take, Err, sym, refl, ap, ◌∙◌, subst, append_assoc, arith}
 use Rattle.reading.specs.declared.Refusal.{Refusal}
 use Rattle.job.specs.Actions.{Act}
-use Rattle.job.specs.Job.{step}
 use Rattle.mechanism.specs.declared.fault.Fault.{Fault}
 use Rattle.mechanism.specs.declared.fault.Fault.TheVariants.{Stopped, ShortReserve}
 use Rattle.mechanism.specs.Refusals.{Barred, Free}
@@ -10,7 +9,6 @@ use Rattle.runs.specs.Outcomes.{Outcome, Command, Mechanism, refused_at_once, ou
 use Rattle.runs.specs.Count.{Count, state_behind, Goes, acts, stuck, reads, refused, ends}
 use Rattle.runs.specs.Calls.{Call, Choice, Counted, none, then_fed, then_covered, then_supplied, then_status, then_settings, all_asked}
 use Rattle.runs.specs.CountLaws.{Follows, Joins, CountsBytes}
-use Rattle.runs.proofs.Steps.{none_or_some, same_refusal}
 
 pub never_both : (n r : ℕ) (s : Bool) (a : Act) (f : Fault) → Free n r s a → Barred n r s a f → ⊥
 never_both n r s a Stopped (o, p) (x, y) = let e = o x in let z : ◌≡◌ {A = ℕ} 0 1 = cc in omega arith
@@ -33,11 +31,11 @@ module _ (need : Act → ℕ) where
   one_way falls _ _ k l e f x y (reads {piece = piece} {k = i} {e = d} p g) (reads {k = j} {e = c} q h) =
       let w = one_way falls _ piece i j d c x y g h in
       (ap (λ z. 1 + z) w.0, ap (outcome_later 1) w.1, w.2)
-  one_way _ _ _ k l e f x y (reads {t = t} {b = b} p g) (refused {why = why} q) = absurd (none_or_some (step (state_behind t) b).refusal why p q)
-  one_way _ _ _ k l e f x y (refused {why = why} q) (reads {t = t} {b = b} p g) = absurd (none_or_some (step (state_behind t) b).refusal why p q)
+  one_way _ _ _ k l e f x y (reads {t = t} {b = b} p g) (refused {why = why} q) = absurd cc
+  one_way _ _ _ k l e f x y (refused {why = why} q) (reads {t = t} {b = b} p g) = absurd cc
   one_way _ _ _ k l e f x y (refused {t = t} {b = b} {why = why} p) (refused {why = other} q) = (
     refl,
-    ap (λ (z : Refusal). let o : Outcome = Err (Command (refused_at_once (state_behind t).reading z)) in o) (same_refusal (step (state_behind t) b).refusal why other p q),
+    ap (λ (z : Refusal). let o : Outcome = Err (Command (refused_at_once (state_behind t).reading z)) in o) (let same : why ≡ other = cc in same),
     refl,
   )
   one_way _ _ _ k l e f x y ends ends = (refl, refl, refl)

@@ -7,7 +7,6 @@ use Rattle.mechanism.specs.declared.fault.Fault.{Fault}
 use Rattle.mechanism.specs.declared.mechanism.Mechanism.{Ghosts}
 use Rattle.runs.specs.Outcomes.{Command, Mechanism, refused_at_once}
 use Rattle.runs.specs.Feeds.{End, ended, later, FeedsTo, takes, stuck, reads, refused, ends}
-use Rattle.runs.proofs.Steps.{none_or_some, same_refusal}
 use Rattle.runs.proofs.Counts.{never_both, same_fault}
 
 module _ {S : Type 0} (g : Ghosts S) (one : (m : S) (a : Act) (n p : S) → g.took m a n → g.took m a p → n ≡ p) where
@@ -21,8 +20,8 @@ module _ {S : Type 0} (g : Ghosts S) (one : (m : S) (a : Act) (n p : S) → g.to
       ap (λ (i : Fault). ended 0 (Err (Mechanism i)) (a ∷ more) st m) (same_fault (g.need a) (g.reserve m) (g.stopped m) a x z y w)
   one_end _ st m _ e f (reads {b = b} {piece = bs} {e = i} x d) (reads {e = j} y h) =
       ap (later 1) (one_end (step st b).acts (step st b).next m bs i j d h)
-  one_end _ st m _ e f (reads {b = b} x d) (refused {why = why} y) = absurd (none_or_some (step st b).refusal why x y)
-  one_end _ st m _ e f (refused {why = why} y) (reads {b = b} x d) = absurd (none_or_some (step st b).refusal why x y)
+  one_end _ st m _ e f (reads {b = b} x d) (refused {why = why} y) = absurd cc
+  one_end _ st m _ e f (refused {why = why} y) (reads {b = b} x d) = absurd cc
   one_end _ st m _ e f (refused {b = b} {why = why} x) (refused {why = other} y) =
-      ap (λ (w : Refusal). ended 1 (Err (Command (refused_at_once st.reading w))) [] (step st b).next m) (same_refusal (step st b).refusal why other x y)
+      ap (λ (w : Refusal). ended 1 (Err (Command (refused_at_once st.reading w))) [] (step st b).next m) (let same : why ≡ other = cc in same)
   one_end _ st m _ e f ends ends = refl

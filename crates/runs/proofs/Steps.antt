@@ -10,18 +10,12 @@ use Rattle.job.specs.Job.{State, Run, Refused, later, refused_here, carry_out, a
 use Rattle.job.proofs.Runs.{run_append}
 use Rattle.runs.specs.Count.{state_behind}
 
-pub none_or_some : (x : Option Refusal) (why : Refusal) → x ≡ None → x ≡ Some why → ⊥
-none_or_some x why p q = let z : ◌≡◌ {A = ℕ} 0 1 = cc in omega arith
-
-pub same_refusal : (x : Option Refusal) (why other : Refusal) → x ≡ Some why → x ≡ Some other → why ≡ other
-same_refusal x why other p q = cc
-
 -- a refused command orders nothing
 pub refused_orders_nothing : (st : State) (b : ℕ) (why : Refusal) → (step st b).refusal ≡ Some why → (step st b).acts ≡ []
 refused_orders_nothing st b why h = go (meaning st.reading b) h
   where
     tested : (t : Bool) (c : Command) (behind : Reading) → (carry_out t c behind st.printer).refusal ≡ Some why → (carry_out t c behind st.printer).acts ≡ []
-    tested true c behind k = absurd (none_or_some None why refl k)
+    tested true c behind k = absurd cc
     tested false c behind k = refl
 
     go : (m : Meaning) → (act_on m st.printer).refusal ≡ Some why → (act_on m st.printer).acts ≡ []
