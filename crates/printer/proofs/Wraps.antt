@@ -1,6 +1,6 @@
 -- Spaces one after another: a row is ordered at the first line feed at most.
 use Rattle.std.proofs.Common.{◌≡◌, ℕ, zero, suc, ◌+◌, ◌-◌, ◌≤◌, Bool, true, false, cond, ◌&&◌, ◌||◌, List, [], ◌∷◌, ◌++◌, map, sym, refl, ap, ◌∙◌, subst, ⊎_elim, append_assoc, append-nil, add-one, arith}
-use Rattle.std.proofs.lemmas.Bool.{cond-true, cond-false, cases_Bool}
+use Rattle.std.proofs.lemmas.Bool.{and_from, cond-true, cond-false, cases_Bool}
 use Rattle.std.proofs.lemmas.List.{map-append, replicate_more}
 use Rattle.std.proofs.lemmas.Bool.Decides.{when_true, when_false}
 use Rattle.reading.specs.Tests.{every}
@@ -11,6 +11,7 @@ use Rattle.job.specs.Printer.{Printer}
 use Rattle.job.specs.Row.{closed_cell, is_blank, closing, fits, next_attributes, cells_of, with_character}
 use Rattle.job.specs.Effects.{Effect, quiet, ◌then◌, times}
 use Rattle.job.specs.Lines.{feed_line}
+use Rattle.job.proofs.Every.{every_append}
 use Rattle.job.proofs.Feeds.{Bare, bare_blanks, bare_closing, advances, feed_acts}
 use Rattle.printer.specs.Spaces.{space, SpacePut}
 
@@ -26,13 +27,10 @@ times_more f n p = rw add-one (more n p)
 
 -- rows of spaces and blanks
 
-every_append : (f : Cell → Bool) (xs ys : List Cell) → every f xs ≡ true → every f ys ≡ true → every f (xs ++ ys) ≡ true
-every_append f [] ys a b = b
-every_append f (x ∷ xs) ys a b = grind (arith, every_append f xs ys)
-
 bare_append : (xs ys : List Cell) → Bare xs → Bare ys → Bare (xs ++ ys)
 bare_append xs ys a b =
-    subst (λ (zs : List Cell). every is_blank zs ≡ true) (sym (map-append closed_cell xs ys)) (every_append is_blank (map closed_cell xs) (map closed_cell ys) a b)
+    ap (λ (zs : List Cell). every is_blank zs) (map-append closed_cell xs ys)
+    ∙ (every_append is_blank (map closed_cell xs) (map closed_cell ys) ∙ and_from _ _ a b)
 
 wide_bare : (b : Bool) (c : Cell) → closed_cell c ≡ Blank → Bare (cond b (c ∷ []) [])
 wide_bare true c e = ap (λ (d : Cell). is_blank d && true) e

@@ -1,17 +1,13 @@
 -- A report, byte by byte.
-use Rattle.std.proofs.Common.{◌≡◌, ℕ, ◌+◌, ◌<◌, List, [], ◌∷◌, ◌++◌, length, get_or, take, sym, refl, ap, ◌∙◌, append_assoc, append-nil, arith}
+use Rattle.std.proofs.Common.{◌≡◌, ℕ, ◌+◌, ◌<◌, List, [], ◌∷◌, ◌++◌, length, get_or, take, sym, ap, ◌∙◌, append-nil, arith}
+use Rattle.std.proofs.lemmas.Grind.{flat_map-append}
 use Rattle.std.proofs.lemmas.List.{take_more, length-take-le}
-use Rattle.job.specs.Actions.{Act}
 use Rattle.job.specs.Job.{State, Run, Refused, later, run_byte, followed_by, run, new}
 use Rattle.job.proofs.Runs.{run_append}
 use Rattle.interpreter.specs.declared.Interpreter.{Interpreter}
 use Rattle.interpreter.specs.Interpreter.{state_of}
 use Rattle.runs.specs.declared.fault.RefusedCommand.{RefusedCommand}
 use Rattle.report.specs.Reports.{action_line, action_lines, AddsByte, Reports}
-
-lines_join : (a b : List Act) → action_lines (a ++ b) ≡ action_lines a ++ action_lines b
-lines_join [] b = refl
-lines_join (x ∷ a) b = ap (λ l. action_line x ++ l) (lines_join a b) ∙ sym (append_assoc (action_line x) (action_lines a) (action_lines b))
 
 -- what one byte more does
 one_byte : (st : State) (b : ℕ) → run st (b ∷ []) ≡ run_byte st b
@@ -37,7 +33,7 @@ module _ (s : List ℕ) (i : ℕ) (h : i < length s) (p q : Interpreter) (lines 
       let r = run_byte (state_of p) (get_or s i 0) in
       record {
         job_lines =
-            a.ordered ∙ ap (λ l. l ++ action_lines r.acts) before.job_lines ∙ sym (lines_join (run new (take i s)).acts r.acts)
+            a.ordered ∙ ap (λ l. l ++ action_lines r.acts) before.job_lines ∙ sym (flat_map-append action_line (run new (take i s)).acts r.acts)
             ∙ ap (λ (x : Run). action_lines x.acts) (sym next);
         refusals = a.refusals ∙ ap (λ (l : List Refused). l ++ later i r.refusals) before.refusals ∙ ap (λ (x : Run). x.refusals) (sym next);
       }

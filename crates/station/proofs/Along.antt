@@ -1,6 +1,6 @@
 -- One feed more along a stream.
 use Rattle.std.proofs.Common.{◌≡◌, ℕ, ◌+◌, ◌-◌, ◌<◌, ◌≤◌, true, false, List, length, take, drop, Ok, Err, sym, refl, ap, ◌∙◌, subst, ⊎_elim, arith, length-drop}
-use Rattle.std.proofs.lemmas.List.{take_all}
+use Rattle.std.proofs.lemmas.List.{take_rest}
 use Rattle.std.proofs.lemmas.Bool.{both_ways, cases_lt}
 use Rattle.job.specs.Job.{Refused, run}
 use Rattle.mechanism.specs.declared.mechanism.Mechanism.{Ghosts}
@@ -26,8 +26,7 @@ module _ {S : Type 0} (g : Ghosts S) (i : Interpreter) (m : S) (stream : List �
     fed_rest : FeedsTo g (owes q) (state_of q) p (drop k stream) (ended count e (owes j) (state_of j) n)
     fed_rest =
         let P : List ℕ → Type 0 = λ l. FeedsTo g (owes q) (state_of q) p l (ended count e (owes j) (state_of j) n) in
-        let long : length (drop k stream) ≤ length stream - k = simp length-drop (omega arith) in
-        subst P (take_all (length stream - k) (drop k stream) long) f
+        subst P (take_rest stream k) f
 
     did : Does g (owes q) (state_of q) p (drop k stream) (ended count e (owes j) (state_of j) n)
     did = feeds_do_the_job g (owes q) (state_of q) p (drop k stream) (ended count e (owes j) (state_of j) n) fed_rest
