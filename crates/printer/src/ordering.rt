@@ -43,6 +43,7 @@ impl Printer {
         ensures { CarriesAlone (bar_code (parameters_of parameters) (listed string)) self.old owed.old result owed.new self.new }
     {
         let size = BarSize::new(parameters.width, parameters.height).ok_or(Refusal::OutOfRange)?;
+        // An unknown kind is no refusal: it is answered, and only behind parameters in range.
         let kind = BarKind::try_from(parameters.kind).ok();
         match Bars::new(kind, size, parameters.shown == 1, string.as_slice()) {
             Ok(bars) => {

@@ -43,6 +43,7 @@ impl Printer {
         requires { length (columns self.old.row) + width_of (next_attributes typed (settings_of self.old.settings)) ≤ 48 }
         ensures { printer_of self.new ≡ with_character typed byte.code (printer_of self.old) }
     {
+        // It has room, by the promise above; the row asks again, since it is asked by others too.
         let _ = self
             .row
             .put(byte.code, self.settings.next_attributes(typed));
