@@ -28,6 +28,7 @@ impl Printer {
     }
 
     /// LF: closes the row, advances by the spacing and counts the line.
+    // Not `close_and_feed` with 1: most rows end here, and one line needs no loop.
     pub(crate) fn line_feed(&mut self, owed: &mut Owed)
         ensures { Does feed_line self.old owed.new self.new }
     {
@@ -59,6 +60,7 @@ impl Printer {
     }
 
     /// VT: line feeds to the next vertical stop within the page, or one.
+    // Two methods for VT and FF, since each is one command, whose effect its contract names.
     pub(crate) fn vertical_tab(&mut self, owed: &mut Owed)
         ensures { DoesAlone (effect vertical_tab) self.old owed.old owed.new self.new }
     {

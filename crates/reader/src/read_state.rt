@@ -136,6 +136,7 @@ impl Collected {
     }
 }
 
+// Two words for the tables below, each of what it begins.
 fn collecting(collected: Collected) -> Meaning
     ensures { meaning_of (Ok result) ≡ more (collected_of collected) }
 {

@@ -114,6 +114,7 @@ impl Settings {
     }
 
     /// Rising stops of 1 to 47.
+    // What both setters of stops test is `Stops::new`; each has its field.
     pub fn set_horizontal_stops(&mut self, stops: Short<8>) -> Result<(), Refusal>
         ensures { ChangedIf (stops_in_range 47 (listed stops)) (with_horizontal_stops (listed stops)) self.old result self.new }
     {
