@@ -6,8 +6,8 @@ ghost use Rattle.action_text.specs.Needs.{text_need, TextsFit};
 use crate::fixed_texts::{cut_text, reply_text};
 use action::actions::Action;
 
-/// As much as the longest row could take.
-const ROW_NEED: u32 = 345;
+/// As much room as the longest row could take; no action's text needs more.
+pub const ROW_NEED: u32 = 345;
 
 /// A row needs as much as the longest one could take, all else the length of its text.
 pub fn need(action: &Action) -> u32
@@ -25,6 +25,7 @@ pub fn need(action: &Action) -> u32
 }
 
 /// A text fits its need: at most 345 bytes for a row and 86 for all else, and at least 1.
+#[tactic(auto, using(crate::proofs::Sizes::texts_fit))]
 pub fn texts_fit_their_needs()
     ensures { TextsFit }
 {}

@@ -7,18 +7,17 @@
 mod tickets;
 
 use crate::tickets::show_tickets;
+use action_text::needs::ROW_NEED;
 use anyhow::{Context, bail};
 use hexadecimal::decode;
 use normal::answer::NormaliseFault;
 use normal::normalise::normalise;
 use std::alloc::Global;
 use std::io::{BufRead, BufReader};
+use stream::STREAM_MAX;
 
 /// What the buffers hold before; no text ends with it.
 const FOUND: u8 = 0xEE;
-
-/// As much as a row needs, whatever its text.
-const ROW_NEED: usize = 345;
 
 /// What a row of a table expects.
 #[derive(Drop)]
@@ -39,7 +38,7 @@ fn bytes(heap: Global, word: &str) -> anyhow::Result<Vec<u8>> {
 fn whole_row(heap: Global, stream: &str, rest: &str) -> anyhow::Result<Expected> {
     let (text, passed_over) = rest.split_once(' ').context("a row has two words")?;
     let text = bytes(heap, text)?;
-    let buffer = text.len().saturating_add(ROW_NEED);
+    let buffer = text.len().saturating_add(ROW_NEED as usize);
     Ok(Expected {
         stream: bytes(heap, stream)?,
         buffer,
@@ -72,7 +71,7 @@ fn refusal(outcome: Result<(), NormaliseFault>) -> Option<u8> {
     outcome.err().map(|fault| fault.number())
 }
 
-/// The number under which an outcome is printed, 0 for a text that is written whole.
+/// The number under which an outcome is printed, 0 for a text that is written whole, as the expected output has it.
 fn printed(outcome: Result<(), NormaliseFault>) -> u8 {
     refusal(outcome).unwrap_or(0)
 }
@@ -124,9 +123,9 @@ fn compare_tables(rt: &HostRuntime) -> anyhow::Result<()> {
 
 /// A stream of the greatest length, and one byte more.
 fn try_long_streams(rt: &HostRuntime) -> anyhow::Result<()> {
-    for length in [65_536, 65_537] {
+    for length in [STREAM_MAX, STREAM_MAX + 1] {
         let stream = vec![in rt.alloc(); 0x07u8; length]?;
-        let mut buffer = vec![in rt.alloc(); FOUND; 65_537]?;
+        let mut buffer = vec![in rt.alloc(); FOUND; STREAM_MAX + 1]?;
         let answer = normalise(&stream, &mut buffer);
         let outcome = printed(answer.outcome);
         let written = answer.written;

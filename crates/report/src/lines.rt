@@ -4,12 +4,13 @@ ghost use Rattle.action.specs.Meanings.{act_of};
 ghost use Rattle.report.specs.Reports.{action_line};
 
 use action::actions::Action;
+use action_text::needs::ROW_NEED;
 use action_text::writing::write_action;
 use hexadecimal::encode;
 use std::alloc::AllocError;
 
 /// As much as the longest action's text could take.
-const TEXT_MAX: usize = 345;
+const TEXT_MAX: usize = ROW_NEED as usize;
 
 /// Adds an action's line to others.
 pub fn add_line(lines: &mut Vec<u8>, action: &Action) -> Result<(), AllocError>
