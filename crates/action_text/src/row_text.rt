@@ -42,6 +42,7 @@ impl<'a> Pen<'a> {
     }
 
     /// A character with its attributes.
+    // A code and attributes, and no type of both: a blank has a text too, and is no character.
     fn put_character(&mut self, from: Attributes, to: Attributes, code: u8)
         requires { length (attribute_change from to ++ code ∷ []) ≤ left self.old }
         ensures { Wrote self.old (attribute_change from to ++ code ∷ []) self.new }

@@ -1,4 +1,5 @@
 //! Calls for programs in C or Rust that link the station's static library.
+//! Slices and numbers alone, as C passes them: what is answered stands at fixed places, and 255, or 0 of a plate, says that there is no room for it.
 #![tactic(auto)]
 
 use interpreter::Interpreter;
@@ -7,7 +8,7 @@ use normal::normalise::normalise;
 use plate::plate::Plate;
 use station::whole::feed_whole;
 
-/// As much as a plate holds.
+/// As much as a plate holds, and so as much as it takes.
 const FULL: u32 = 10_000_000;
 
 #[unsafe(no_mangle)]
@@ -33,6 +34,7 @@ pub extern "C" fn ticket_feed_plate(stream: &[u8], counts: &mut [u32]) -> u64 {
     let mut plate = Plate::new();
     let mut at = 0usize;
     let mut refused = 0u64;
+    // A bounded loop: the contract of a feed does not say that it takes a byte.
     for _turn in 0..=stream.len() {
         let _granted = plate.supply(FULL);
         if at > stream.len() {
