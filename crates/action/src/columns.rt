@@ -20,7 +20,7 @@ pub fn all_blank(cells: &[Cell]) -> bool
 pub fn laid_out(cells: &[Cell]) -> bool
     ensures { result ≡ laid_behind Blank cells.now }
 {
-    // A loop: each column stands against the one before it, and a chain of pairs would have to ask for the last one's tail apart.
+    // A loop: behind it the last column is at hand, whose tail is asked for; a chain of pairs would look for it again.
     let mut before = Cell::Blank;
     for cell in cells {
         if !follows(before, *cell) {

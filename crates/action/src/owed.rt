@@ -79,8 +79,8 @@ impl Owed {
         self.row = row;
     }
 
-    /// Replaces the advances: so many of so many steps each, or none if that is 0 steps.
-    // Numbers and no Option: every caller has a spacing or a parameter, of which 0 is allowed, and would make the Option of it.
+    // Numbers and no Option: a spacing or a parameter may be 0, and whoever has one would have to make the Option of it.
+    /// Replaces the advances: so many of so many steps each, or none if either is 0.
     pub fn set_advances(&mut self, count: u8, steps: u8)
         ensures { Owes self.new (owed_row self.old) (advances_of count steps) (owed_other self.old) }
     {

@@ -59,6 +59,7 @@ pub fn decode(heap: Global, text: &[u8]) -> Result<Vec<u8>, HexFault>
 }
 
 /// The digit of a value below 16.
+// By hand: the library's `from_digit` has small letters.
 fn to_digit(value: u8) -> u8
     requires { value < 16 }
     ensures { result ≡ digit_of value }
@@ -81,6 +82,7 @@ pub fn two_digits(byte: u8) -> [u8; 2]
 pub fn encode(text: &mut Vec<u8>, bytes: &[u8]) -> Result<(), AllocError>
     ensures { MatchResult result (λ _. text.new.items ≡ text.old.items ++ encoded bytes.now) (λ _. Unit) }
 {
+    // A `for`: every turn may fail.
     for byte in bytes {
         text.extend_from_slice(&two_digits(*byte))?;
     }

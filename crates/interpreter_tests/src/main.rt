@@ -36,6 +36,7 @@ fn take_byte(
 
 /// Compares each row, and answers how many there are.
 fn compare_table(rt: &HostRuntime) -> anyhow::Result<u32> {
+    // Rows are read here, since each table has rows of its own, and counted by hand: comments do not count, and every row may fail.
     let mut rows = 0u32;
     for row in BufReader::new(rt.alloc(), rt.stdin())?.lines(rt.alloc()) {
         let row = row?;

@@ -25,7 +25,7 @@ pub struct Paper {
 pub struct Cutter {
     pub on: bool,
     /// A partial cut, not a total one.
-    // By itself, and no Option with `on`: it is kept and told while the cutter is off.
+    // A flag and no kind of cut, as a configuration's body gives it; and no Option with `on`: it is told while the cutter is off too.
     pub partial: bool,
     /// Line feeds before a cut.
     pub lines: u8,

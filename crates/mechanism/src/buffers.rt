@@ -10,6 +10,7 @@ pub fn room(length: usize, written: usize) -> u32
 }
 
 /// So many bytes from the front, or all if there are fewer.
+// Total, so that whoever keeps a length beside a buffer has nothing to promise.
 pub fn front(bytes: &[u8], count: usize) -> &[u8]
     ensures { result.now ≡ take count bytes.now }
 {

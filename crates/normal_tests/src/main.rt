@@ -96,6 +96,7 @@ fn is_as_expected(heap: Global, expected: &Expected) -> anyhow::Result<bool> {
 
 /// Compares each row, and prints how many there are of each table.
 fn compare_tables(rt: &HostRuntime) -> anyhow::Result<()> {
+    // Rows are read here, since each table has rows of its own, and counted by hand: comments do not count, and every row may fail.
     let mut whole = 0u32;
     let mut short = 0u32;
     for row in BufReader::new(rt.alloc(), rt.stdin())?.lines(rt.alloc()) {

@@ -43,6 +43,7 @@ impl Printer {
         ensures printer { printer_of self.new ≡ (close_and_feed count (printer_of self.old)).printer }
     {
         let row = self.close_row();
+        // A loop of calls: behind `for_each` nothing is known of what its closure changed. So in `spaces`.
         for _turn in 0..count {
             self.settings.next_line();
         }

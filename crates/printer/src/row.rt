@@ -57,6 +57,7 @@ impl Printer {
         if let Some(column) = self.settings.stop_beyond(position)
             && column <= u16::from(self.settings.margins().right)
         {
+            // It has room: the column lies within the right margin.
             let _ = self.row.skip(column as u8 - position);
         }
     }

@@ -90,6 +90,7 @@ fn switch(n: u8) -> Result<bool, Refusal>
     }
 }
 
+// Rust's own way to ask for a bit.
 fn bit(n: u8, k: u8) -> bool
     requires { k < 8 }
     ensures { result ≡ bit k n }

@@ -98,7 +98,8 @@ impl Collected {
                     Short::new(),
                 )),
             },
-            // Each list has a length and a command of its own; what the three share is `up_to_zero`.
+            // What the three lists share is `up_to_zero`. The two lines left of each make the list and the command: as closures
+            // they would stand in a function over N, which the borrow checker does not cover.
             Collected::BarString(parameters, string) => match up_to_zero(string, byte)? {
                 Some(string) => collecting(Collected::BarString(parameters, string)),
                 None => Meaning::Done(Command::BarCode(parameters, string)),

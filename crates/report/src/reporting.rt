@@ -32,7 +32,8 @@ fn take_byte(interpreter: &mut Interpreter, stream: &[u8], index: usize) -> Opti
     requires { (owes interpreter.old ≡ []) × (index < length stream.now) }
     ensures { Takes stream.now index interpreter.old (refused_list result) interpreter.new }
 {
-    // An Option, where a station's feed has an error: a refused command ends nothing here, it is one more to tell of.
+    // An Option, where a station's feed has an error: a refused command ends nothing here. One function for both, being public,
+    // could not ask its caller that nothing is owed.
     match interpreter.step(stream, index) {
         Ok(()) => None,
         Err(StepFault::Refused(refusal, place)) => Some(RefusedCommand {

@@ -46,5 +46,6 @@ pub fn whole_text(heap: Global, stream: &[u8]) -> Result<Vec<u8>, TextFault>
             return Ok(text);
         }
     }
+    // The last size apart: that it is too small is the fault.
     text_within(heap, stream, TEXT_MAX)?.ok_or(TextFault::TextTooLong)
 }

@@ -49,6 +49,7 @@ impl Script {
     pub fn next_line(&mut self, heap: Global) -> anyhow::Result<Option<String>> {
         for line in &mut self.lines {
             let line = line?;
+            // Counted here, with the lines that are passed over: a fault is told by the number of its line.
             self.number = self.number.saturating_add(1);
             let text = line.trim_end();
             if !text.is_empty() && !text.starts_with('#') {

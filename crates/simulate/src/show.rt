@@ -78,6 +78,7 @@ pub fn show_outcome(
     Ok(())
 }
 
+// The Display of bool says true and false.
 fn yes_or_no(mark: bool) -> &'static str {
     if mark { "yes" } else { "no" }
 }

@@ -17,6 +17,7 @@ use runs::fault::{FeedFault, RefusedCommand};
 fn settle<M: Mechanism>(interpreter: &mut Interpreter, mechanism: &mut M) -> Result<(), Fault>
     ensures { Settles M.Mechanism interpreter.old mechanism.old result interpreter.new mechanism.new }
 {
+    // No iterator over what is owed: it would lend what each turn removes.
     while let Some(action) = interpreter.owed().first() {
         mechanism.act(&action)?;
         interpreter.remove_first();

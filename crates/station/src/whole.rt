@@ -32,6 +32,7 @@ pub fn feed_whole<M: Mechanism>(
 {
     let mut taken = 0;
     let mut passed_over = 0;
+    // No iterator: where the next feed begins is what the one before answers.
     loop {
         let (count, outcome) = feed(interpreter, mechanism, &stream[taken..]);
         taken += count;

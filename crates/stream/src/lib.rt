@@ -34,6 +34,7 @@ impl TokenFault {
 
 impl LineFault {
     /// The number under which the fault is reported.
+    // A method, as the one above.
     pub fn number(self) -> u8
         ensures { result ≡ line_fault_number self }
     {
@@ -154,6 +155,7 @@ impl<'a> Token<'a> {
     pub fn letter(&self) -> u8
         ensures { result ≡ letter (part_of self.now).kind }
     {
+        // A table, as the definition has it.
         match self {
             Token::Text(_) => b'T',
             Token::Control(_) => b'C',

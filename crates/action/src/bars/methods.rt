@@ -83,6 +83,7 @@ impl Bars {
     }
 
     /// The characters that it encodes.
+    // A row lends its columns likewise: two arrays of two elements, one line each.
     pub fn string(&self) -> &[u8]
         ensures { result.now ≡ take self.now.len self.now.string }
     {
