@@ -2,17 +2,25 @@
 //! Slices and numbers alone, as C passes them: what is answered stands at fixed places, and 255, or 0 of a plate, says that there is no room for it.
 #![tactic(auto)]
 
+ghost use Rattle.std.specs.Prelude.{◌≡◌};
+ghost use Rattle.normal.specs.Normalises.{refused_in, Normalises};
+ghost use Rattle.job.specs.Job.{job};
+ghost use Rattle.mechanism.specs.Counts.{tally};
+ghost use Rattle.ticket_c.specs.Calls.{counted_all, FeedCall, NormaliseCall};
+
+mod full_plate;
+
+use full_plate::FullPlate;
 use interpreter::Interpreter;
-use mechanism::mechanism::Mechanism;
+use mechanism::counts::Counts;
 use normal::normalise::normalise;
-use plate::plate::Plate;
 use station::whole::feed_whole;
 
-/// As much as a plate holds, and so as much as it takes.
-const FULL: u32 = 10_000_000;
-
+/// Writes the normal text of a stream: 0 for a whole text, 5 or 6 for another, with its length and the commands passed over.
 #[unsafe(no_mangle)]
-pub extern "C" fn ticket_normalise(stream: &[u8], out: &mut [u8], answer: &mut [u64]) -> u8 {
+pub extern "C" fn ticket_normalise(stream: &[u8], out: &mut [u8], answer: &mut [u64]) -> u8
+    ensures { NormaliseCall stream.now out.old answer.old result out.new answer.new }
+{
     if answer.len() < 2 {
         return 255;
     }
@@ -25,35 +33,28 @@ pub extern "C" fn ticket_normalise(stream: &[u8], out: &mut [u8], answer: &mut [
     }
 }
 
+/// Feeds a whole stream to a plate that is always full; answers its counts and how many commands were passed over.
+fn feed_full(stream: &[u8]) -> (Counts, usize)
+    ensures counts { tally result.0 ≡ counted_all (job stream.now) }
+    ensures passed { result.1 ≡ refused_in stream.now }
+{
+    let mut interpreter = Interpreter::new();
+    let mut plate = FullPlate::new();
+    let fed = feed_whole(&mut interpreter, &mut plate, stream);
+    (plate.counts(), fed.passed_over)
+}
+
+/// Feeds a stream to a plate that is always full: the seven counts of its job, and how many commands were passed over.
 #[unsafe(no_mangle)]
-pub extern "C" fn ticket_feed_plate(stream: &[u8], counts: &mut [u32]) -> u64 {
+pub extern "C" fn ticket_feed_plate(stream: &[u8], counts: &mut [u32]) -> u64
+    ensures { FeedCall stream.now counts.old result counts.new }
+{
     if counts.len() < 7 {
         return 0;
     }
-    let mut interpreter = Interpreter::new();
-    let mut plate = Plate::new();
-    let mut at = 0usize;
-    let mut refused = 0u64;
-    // A bounded loop: the contract of a feed does not say that it takes a byte.
-    for _turn in 0..=stream.len() {
-        let _granted = plate.supply(FULL);
-        if at > stream.len() {
-            break;
-        }
-        let fed = feed_whole(&mut interpreter, &mut plate, &stream[at..]);
-        at = at.saturating_add(fed.taken);
-        refused = refused.saturating_add(fed.passed_over as u64);
-        if fed.outcome.is_ok() {
-            break;
-        }
-    }
-    let c = plate.counts();
-    counts[0] = c.advance;
-    counts[1] = c.rows;
-    counts[2] = c.bars;
-    counts[3] = c.cuts;
-    counts[4] = c.pulses;
-    counts[5] = c.beeps;
-    counts[6] = c.replies;
-    refused
+    let (c, passed_over) = feed_full(stream);
+    counts[..7].copy_from_slice(&[
+        c.advance, c.rows, c.bars, c.cuts, c.pulses, c.beeps, c.replies,
+    ]);
+    passed_over as u64
 }
