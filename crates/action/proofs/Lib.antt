@@ -1,4 +1,3 @@
-pub mod Lists
 pub mod Rows
 pub mod BarCodes
 pub mod Owing

@@ -18,7 +18,7 @@ fn put_characters(out: &mut [u8], cells: &[Cell])
     requires { length out.old ≡ length cells.now }
     ensures { out.new ≡ map character_of cells.now }
 {
-    // By index: an array's `map` runs slower over 48 columns, and of a slice written through `iter_mut` no proof says what it then holds.
+    // By index: a slice has no `map`, and of one that is written through `iter_mut` no proof says what it then holds.
     for (i, cell) in cells.iter().enumerate() {
         out[i] = character(*cell);
     }
