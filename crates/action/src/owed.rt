@@ -65,8 +65,13 @@ impl Owed {
     {
         if self.row.is_some() {
             self.row = None;
-        } else if let Some(advances) = self.advances {
-            self.advances = advances.rest();
+        } else if let Some(advances) = &mut self.advances {
+            // In place: made anew, both numbers would be written, and read again for the next one.
+            if advances.count() == 1 {
+                self.advances = None;
+            } else {
+                advances.remove_first();
+            }
         } else {
             self.other = None;
         }

@@ -43,6 +43,9 @@ impl Interpreter {
         requires { owes self.old ≡ [] }
         ensures { step_of result self.new ≡ step (state_of self.old) byte }
     {
+        if self.reading.goes_on(byte) {
+            return Ok(());
+        }
         // Each arm says what is read next: taken out by `mem::replace`, with `?` behind it, what is read makes a byte half as slow again.
         match self.reading.meaning(byte) {
             Ok(Meaning::More(reading)) => {

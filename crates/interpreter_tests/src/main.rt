@@ -49,7 +49,7 @@ fn compare_table(rt: &HostRuntime) -> anyhow::Result<u32> {
         let (_, expected) = rest
             .split_once(' ')
             .context("a row of the table has no second space")?;
-        if refusals(&decode(rt.alloc(), stream.as_bytes())?) != expected.parse::<usize>()? {
+        if refusals(&decode(rt.alloc(), stream.as_bytes())?) != expected.parse::<u32>()? as usize {
             rt.eprintln(stream)?;
             bail!("this stream's refused commands differ from the table");
         }

@@ -53,10 +53,12 @@ fn short_row(heap: Global, stream: &str, rest: &str) -> anyhow::Result<Expected>
     let (length, rest) = rest.split_once(' ').context("a row has two words")?;
     let (text, rest) = rest.split_once(' ').context("a row has three words")?;
     let (passed_over, outcome) = rest.split_once(' ').context("a row has four words")?;
+    // 0 for none, as it is printed.
     let refusal = outcome
         .strip_prefix("held ")
         .map(|number| number.parse::<u8>())
-        .transpose()?;
+        .transpose()?
+        .filter(|number| *number != 0);
     Ok(Expected {
         stream: bytes(heap, stream)?,
         buffer: length.parse::<usize>()?,

@@ -10,6 +10,7 @@ use std::test::Fail;
 fn stopped_until_closed(rt: HostRuntime) -> Result<(), Fail> {
     let mut m = OddMechanism::new();
     assert!(rt; m.act(&Action::Beep) == Err(Fault::Stopped));
+    assert!(rt; Fault::Stopped.number() == 4);
     assert!(rt; m.act(&Action::Reply(Reply::Identity)).is_ok());
     m.cover(false);
     assert!(rt; m.act(&Action::Beep).is_ok());

@@ -1,5 +1,5 @@
 -- What the reader's values stand for.
-use Rattle.std.specs.Prelude.{◌≡◌, ◌≢◌, ℕ, ◌<◌, ◌∷◌, [], ◌++◌, length, Some, None, Ok, Err, Option, Result}
+use Rattle.std.specs.Prelude.{◌≡◌, ◌≢◌, ℕ, Bool, true, false, ◌<◌, ◌∷◌, [], ◌++◌, length, Some, None, Ok, Err, Option, Result}
 use Rattle.reading.specs.declared.Refusal.{Refusal}
 use Rattle.reading.specs.declared.Refusal.TheVariants.{TooLong}
 use Rattle.reading.specs.Reading as table
@@ -42,3 +42,8 @@ abbrev pub UpToZero : {N : ℕ} → Short N → ℕ → Result (Option (Short N)
 UpToZero {N} got b (Ok (Some more)) = (b ≢ 0) × (length (listed got) < N) × (listed more ≡ listed got ++ b ∷ [])
 UpToZero {N} got b (Ok None) = b ≡ 0
 UpToZero {N} got b (Err why) = (b ≢ 0) × (length (listed got) ≡ N) × (why ≡ TooLong)
+
+-- a byte that only goes on what is collected, and what is being read behind it; any other byte leaves it
+abbrev pub GoesOn : table.Reading → ℕ → Bool → table.Reading → Type 0
+GoesOn before b true after = table.meaning before b ≡ table.more after
+GoesOn before b false after = after ≡ before

@@ -5,7 +5,7 @@ ghost use Rattle.reading.specs.Reading.{escape_codes, meaning, more, parameter, 
 ghost use Rattle.reading.specs.Tests.{find};
 ghost use Rattle.reading.specs.Unfinished.{begun};
 ghost use Rattle.reader.specs.Commands.{command_of};
-ghost use Rattle.reader.specs.Reading.{collected_of, meaning_of, reading_of, UpToZero};
+ghost use Rattle.reader.specs.Reading.{collected_of, meaning_of, reading_of, GoesOn, UpToZero};
 
 use crate::command::{BarParameters, Command};
 use crate::text_byte::TextByte;
@@ -71,6 +71,21 @@ impl Reading {
         }
     }
 
+    /// Puts a byte behind what is collected, if it does no more than that; answers whether it does. Any other byte is left to `meaning`.
+    // In place: `meaning` copies what is collected, which at each byte of a list or a body costs more than all else.
+    pub fn goes_on(&mut self, byte: u8) -> bool
+        ensures { GoesOn (reading_of self.old) byte result (reading_of self.new) }
+    {
+        let Reading::Collecting(mut collected) = *self else {
+            return false;
+        };
+        let goes_on = collected.goes_on(byte);
+        if goes_on {
+            *self = Reading::Collecting(collected);
+        }
+        goes_on
+    }
+
     /// How many bytes of an unfinished command have come.
     pub fn begun(&self) -> usize
         ensures value { result ≡ length (begun (reading_of self.now)) }
@@ -120,6 +135,18 @@ impl Collected {
                 )),
             },
         })
+    }
+
+    fn goes_on(&mut self, byte: u8) -> bool
+        ensures { GoesOn (collected_of self.old) byte result (collected_of self.new) }
+    {
+        match self {
+            Collected::BarParameters(got) => got.push(byte).is_ok(),
+            Collected::BarString(_, string) => byte != 0 && string.push(byte).is_ok(),
+            Collected::VerticalList(stops) => byte != 0 && stops.push(byte).is_ok(),
+            Collected::HorizontalList(stops) => byte != 0 && stops.push(byte).is_ok(),
+            Collected::Body(_, got) => got.push(byte).is_ok(),
+        }
     }
 
     fn begun(&self) -> usize

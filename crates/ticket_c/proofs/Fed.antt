@@ -20,14 +20,14 @@ use Rattle.runs.specs.Whole.{Passes}
 use Rattle.normal.specs.Normalises.{refused_in}
 use Rattle.ticket_c.specs.declared.full_plate.FullPlate.{FullPlate}
 use Rattle.ticket_c.specs.Calls.{counted_all}
-use Rattle.ticket_c.specs.Full.{Took}
+use Rattle.ticket_c.specs.Full.{Took, shown_paper}
 use Rattle.ticket_c.specs.Lawful.{lawful}
 
 -- the full plate, by the members of the interface of mechanisms
 abbrev full_plate : Ghosts FullPlate
 full_plate = record {
   sheet = λ p. plate_sheet p.plate;
-  reserve = λ p. p.plate.reserve;
+  reserve = shown_paper;
   stopped = λ p. p.plate.stopped;
   need = plate_need;
   rule = plate_rule;
@@ -71,7 +71,7 @@ module _ (p q : FullPlate) (begins : plate_sheet p.plate ≡ replicate 7 0) (at_
       let jobs : job (take k stream) ≡ w.done ++ left.0 ∷ left.1 = w.jobs ∙ ap (λ (l : List Act). w.done ++ l) left.2 in
       let can : AllByRecursion Orderable (w.done ++ left.0 ∷ left.1) = subst (λ (l : List Act). AllByRecursion Orderable l) jobs (only_orderable (take k stream) (first_bytes k stream bytes)) in
       let few = lawful.need_bounded left.0 (orderable_behind w.done left.0 left.1 can) in
-      absurd (omega (arith, few, left.3.1, q.full))
+      absurd (omega (arith, few, left.3.1))
   by_outcome (Err (Command c)) f = absurd f.ended_there
 
 -- the same from an interpreter that is new

@@ -1,11 +1,16 @@
--- A plate that is full at every action.
-use Rattle.std.specs.Prelude.{◌≡◌}
+-- A plate that shows all its paper at every action.
+use Rattle.std.specs.Prelude.{◌≡◌, ℕ}
 use Rattle.job.specs.Actions.{Act}
+use Rattle.plate.specs.Paper.{paper_limit}
 use Rattle.plate.specs.Plates.{plate_rule, plate_sheet}
 use Rattle.ticket_c.specs.declared.full_plate.FullPlate.{FullPlate}
 
--- what it makes of an action: the counts move, and it is as full as before
+-- the paper that it shows: as much as a plate holds, whatever is left of it
+abbrev pub shown_paper : FullPlate → ℕ
+shown_paper p = paper_limit
+
+-- what it makes of an action: the counts move, and it shows as much paper as before
 pub record Took (p : FullPlate) (a : Act) (q : FullPlate) : Type 0 where
   pub sheet_moves : plate_sheet q.plate ≡ plate_rule (plate_sheet p.plate) a
-  pub reserve_stays : q.plate.reserve ≡ p.plate.reserve
+  pub reserve_stays : shown_paper q ≡ shown_paper p
   pub mark_stays : q.plate.stopped ≡ p.plate.stopped

@@ -1,5 +1,5 @@
 //! How advances are counted off.
-ghost use Rattle.std.specs.Prelude.{◌≡◌, ◌-◌, replicate};
+ghost use Rattle.std.specs.Prelude.{◌≡◌, ◌-◌, ◌≤◌, Some, replicate};
 ghost use Rattle.action.specs.Meanings.{advance_act, advances_acts};
 
 use crate::advances::Advances;
@@ -17,11 +17,12 @@ impl Advances {
         }
     }
 
-    /// All but the first.
-    pub fn rest(self) -> Option<Advances>
-        ensures { advances_acts result ≡ replicate (self.count - 1) (advance_act self.steps) }
+    /// One less of them, where they are several.
+    pub fn remove_first(&mut self)
+        requires { 2 ≤ self.old.count }
+        ensures { advances_acts (Some self.new) ≡ replicate (self.old.count - 1) (advance_act self.old.steps) }
     {
-        Advances::new(self.count - 1, self.steps)
+        self.count -= 1;
     }
 
     /// How many advances they are.

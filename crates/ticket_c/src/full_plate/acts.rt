@@ -2,7 +2,7 @@
 ghost use Rattle.std.specs.Prelude.{◌≡◌, false, replicate};
 ghost use Rattle.mechanism.specs.Counts.{leading_counts, tally};
 ghost use Rattle.plate.specs.Plates.{plate_latest, plate_need, plate_rule, plate_sheet};
-ghost use Rattle.ticket_c.specs.Full.{Took};
+ghost use Rattle.ticket_c.specs.Full.{Took, shown_paper};
 ghost use Rattle.ticket_c.specs.Lawful.{lawful};
 
 use crate::full_plate::FullPlate;
@@ -15,6 +15,9 @@ use plate::plate::Plate;
 
 /// As much as a plate holds.
 const FULL: u32 = 10_000_000;
+
+/// As much as any action may need.
+const ENOUGH: u32 = 512;
 
 impl FullPlate {
     /// A full plate that has done nothing.
@@ -38,7 +41,7 @@ impl FullPlate {
 impl Mechanism for FullPlate {
     ghost sheet = { λ p. plate_sheet p.plate };
 
-    ghost reserve = { λ p. p.plate.reserve };
+    ghost reserve = { shown_paper };
 
     ghost stopped = { λ p. p.plate.stopped };
 
@@ -58,7 +61,10 @@ impl Mechanism for FullPlate {
 
     fn act(&mut self, action: &Action) -> Result<(), Fault> {
         self.plate.act(action)?;
-        let _granted = self.plate.supply(FULL);
+        // Not behind every action: an advance, of which a byte may order 127, took twice as long.
+        if self.plate.reserve() < ENOUGH {
+            let _granted = self.plate.supply(FULL);
+        }
         Ok(())
     }
 
