@@ -43,7 +43,7 @@ UpToZero {N} got b (Ok (Some more)) = (b ≢ 0) × (length (listed got) < N) × 
 UpToZero {N} got b (Ok None) = b ≡ 0
 UpToZero {N} got b (Err why) = (b ≢ 0) × (length (listed got) ≡ N) × (why ≡ TooLong)
 
--- a byte that only goes on what is collected, and what is being read behind it; any other byte leaves it
+-- a byte that is taken asks for more, and this is being read behind it; one that is not taken changes nothing
 abbrev pub GoesOn : table.Reading → ℕ → Bool → table.Reading → Type 0
 GoesOn before b true after = table.meaning before b ≡ table.more after
 GoesOn before b false after = after ≡ before

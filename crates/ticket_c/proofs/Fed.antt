@@ -55,7 +55,7 @@ first_bytes (suc k) [] h = tt
 first_bytes (suc k) (b ∷ s) h = (h.0, first_bytes k s h.1)
 
 module _ (p q : FullPlate) (begins : plate_sheet p.plate ≡ replicate 7 0) (at_work : p.plate.stopped ≡ false) (stream : List ℕ) (bytes : Bytes stream) (k passed : ℕ) (owed : List Act) (st : State) where
-  -- by the outcome: a full plate at work refuses nothing
+  -- by the outcome: such a plate at work refuses nothing
   by_outcome : (e : Outcome) → Passes full_plate [] new p stream k passed e owed st q → (plate_sheet q.plate ≡ counted_all (job stream)) × (passed ≡ refused_in stream)
   by_outcome (Ok u) f =
       let w = f.passing in

@@ -9,8 +9,7 @@ use Rattle.ticket_c.specs.declared.full_plate.FullPlate.{FullPlate}
 abbrev pub shown_paper : FullPlate → ℕ
 shown_paper p = paper_limit
 
--- what it makes of an action: the counts move, and it shows as much paper as before
+-- what it makes of an action: the counts move; the paper that it shows is always the same
 pub record Took (p : FullPlate) (a : Act) (q : FullPlate) : Type 0 where
   pub sheet_moves : plate_sheet q.plate ≡ plate_rule (plate_sheet p.plate) a
-  pub reserve_stays : shown_paper q ≡ shown_paper p
   pub mark_stays : q.plate.stopped ≡ p.plate.stopped

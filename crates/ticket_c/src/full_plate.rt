@@ -6,7 +6,7 @@ ghost use Rattle.mechanism.specs.Mechanisms.{need_limit};
 
 use plate::plate::Plate;
 
-/// A plate that is filled up before less paper is left than an action may need: whoever feeds it never sees it less than full.
+/// A plate that is filled up when an action leaves less paper than the next one may need; whoever feeds it takes it for full.
 #[derive(Drop)]
 pub struct FullPlate {
     plate: Plate,

@@ -33,7 +33,7 @@ pub extern "C" fn ticket_normalise(stream: &[u8], out: &mut [u8], answer: &mut [
     }
 }
 
-/// Feeds a whole stream to a plate that is always full; answers its counts and how many commands were passed over.
+/// Feeds a whole stream to a plate that never runs short of paper; answers its counts and how many commands were passed over.
 fn feed_full(stream: &[u8]) -> (Counts, usize)
     ensures counts { tally result.0 ≡ counted_all (job stream.now) }
     ensures passed { result.1 ≡ refused_in stream.now }
@@ -44,7 +44,7 @@ fn feed_full(stream: &[u8]) -> (Counts, usize)
     (plate.counts(), fed.passed_over)
 }
 
-/// Feeds a stream to a plate that is always full: the seven counts of its job, and how many commands were passed over.
+/// Feeds a stream to a plate that never runs short of paper: the seven counts of its job, and how many commands were passed over.
 #[unsafe(no_mangle)]
 pub extern "C" fn ticket_feed_plate(stream: &[u8], counts: &mut [u32]) -> u64
     ensures { FeedCall stream.now counts.old result counts.new }
