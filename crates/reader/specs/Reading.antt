@@ -1,5 +1,5 @@
 -- What the reader's values stand for.
-use Rattle.std.specs.Prelude.{◌≡◌, ◌≢◌, ℕ, Bool, true, false, ◌<◌, ◌∷◌, [], ◌++◌, length, Some, None, Ok, Err, Option, Result}
+use Rattle.std.specs.Prelude.{◌≡◌, ◌≢◌, ℕ, Bool, true, false, not, ◌&&◌, ◌==◌, nat_lt, ◌<◌, ◌∷◌, [], ◌++◌, length, Some, None, Ok, Err, Option, Result}
 use Rattle.reading.specs.declared.Refusal.{Refusal}
 use Rattle.reading.specs.declared.Refusal.TheVariants.{TooLong}
 use Rattle.reading.specs.Reading as table
@@ -43,7 +43,21 @@ UpToZero {N} got b (Ok (Some more)) = (b ≢ 0) × (length (listed got) < N) × 
 UpToZero {N} got b (Ok None) = b ≡ 0
 UpToZero {N} got b (Err why) = (b ≢ 0) × (length (listed got) ≡ N) × (why ≡ TooLong)
 
--- a byte that is taken asks for more, and this is being read behind it; one that is not taken changes nothing
+-- whether a byte only adds to what is collected: it neither ends a list nor is one too many, and more is to come of the same
+abbrev pub only_adds : table.Reading → ℕ → Bool
+only_adds table.text b = false
+only_adds table.escape b = false
+only_adds table.group b = false
+only_adds (table.parameter code) b = false
+only_adds table.repeat_what b = false
+only_adds (table.repeat_count what) b = false
+only_adds (table.bar_parameters got) b = nat_lt (length got) 3
+only_adds (table.bar_string ps got) b = not (b == 0) && nat_lt (length got) 25
+only_adds (table.vertical_list got) b = not (b == 0) && nat_lt (length got) 16
+only_adds (table.horizontal_list got) b = not (b == 0) && nat_lt (length got) 8
+only_adds (table.body replies got) b = nat_lt (length got) 39
+
+-- a byte that only adds is taken: it asks for more, and this is being read behind it; any other changes nothing
 abbrev pub GoesOn : table.Reading → ℕ → Bool → table.Reading → Type 0
-GoesOn before b true after = table.meaning before b ≡ table.more after
-GoesOn before b false after = after ≡ before
+GoesOn before b true after = (only_adds before b ≡ true) × (table.meaning before b ≡ table.more after)
+GoesOn before b false after = (only_adds before b ≡ false) × (after ≡ before)

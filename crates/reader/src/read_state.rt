@@ -73,7 +73,6 @@ impl Reading {
 
     /// Takes a byte that only adds to what is collected, and answers that it did; any other byte changes nothing here, and `meaning` says what it means.
     // Asked before `meaning`, whose results copy what is collected several times over: here it is copied out and back, once.
-    // The clause leaves open which bytes are taken here; whoever asks `meaning` about the others need not know.
     pub fn goes_on(&mut self, byte: u8) -> bool
         ensures { GoesOn (reading_of self.old) byte result (reading_of self.new) }
     {
