@@ -12,7 +12,7 @@ use Rattle.mechanism.specs.declared.mechanism.Mechanism.{Ghosts}
 use Rattle.mechanism.specs.declared.fault.Fault.TheVariants.{Stopped, ShortReserve}
 use Rattle.mechanism.specs.Counts.{counted, leading_counts}
 use Rattle.mechanism.specs.Mechanisms.{Taken}
-use Rattle.plate.specs.Plates.{plate_latest, plate_need, plate_rule, plate_sheet}
+use Rattle.plate.specs.Plates.{plate_need, plate_rule, plate_sheet}
 use Rattle.runs.specs.declared.fault.FeedFault.TheVariants.{Command, Mechanism}
 use Rattle.runs.specs.Outcomes.{Outcome}
 use Rattle.runs.specs.Offers.{Chain, along}
@@ -20,7 +20,7 @@ use Rattle.runs.specs.Whole.{Passes}
 use Rattle.normal.specs.Normalises.{refused_in}
 use Rattle.ticket_c.specs.declared.full_plate.FullPlate.{FullPlate}
 use Rattle.ticket_c.specs.Calls.{counted_all}
-use Rattle.ticket_c.specs.Full.{Took, shown_paper}
+use Rattle.ticket_c.specs.Full.{Stays, Took, shown_paper}
 use Rattle.ticket_c.specs.Lawful.{lawful}
 
 -- the full plate, by the members of the interface of mechanisms
@@ -34,7 +34,7 @@ full_plate = record {
   counts = leading_counts;
   took = Took;
   grants = λ p offered grant. grant ≡ 0;
-  stays = λ p q. plate_latest q.plate ≡ plate_latest p.plate;
+  stays = Stays;
   laws = lawful;
 }
 

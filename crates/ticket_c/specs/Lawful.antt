@@ -15,8 +15,8 @@ lawful = record {
   reserve_bounded = λ p. omega arith;
   took_moves = λ p a q t. record {
     sheet_moves = t.sheet_moves;
-    reserve_falls = omega arith;
-    within_need = omega arith;
+    reserve_falls = omega (arith, t.reserve_stays);
+    within_need = omega (arith, t.reserve_stays);
     mark_stays = t.mark_stays;
   };
 }

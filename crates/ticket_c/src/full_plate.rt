@@ -1,5 +1,7 @@
 //! A plate that never runs short of paper.
 mod acts;
+#[cfg(test)]
+mod tests;
 
 ghost use Rattle.std.specs.Prelude.{◌≤◌};
 ghost use Rattle.mechanism.specs.Mechanisms.{need_limit};

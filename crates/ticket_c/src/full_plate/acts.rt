@@ -1,8 +1,9 @@
 //! The full plate as a mechanism.
 ghost use Rattle.std.specs.Prelude.{◌≡◌, false, replicate};
 ghost use Rattle.mechanism.specs.Counts.{leading_counts, tally};
-ghost use Rattle.plate.specs.Plates.{plate_latest, plate_need, plate_rule, plate_sheet};
-ghost use Rattle.ticket_c.specs.Full.{Took, shown_paper};
+ghost use Rattle.plate.specs.Paper.{paper_limit};
+ghost use Rattle.plate.specs.Plates.{plate_need, plate_rule, plate_sheet};
+ghost use Rattle.ticket_c.specs.Full.{Stays, Took, shown_paper};
 ghost use Rattle.ticket_c.specs.Lawful.{lawful};
 
 use crate::full_plate::FullPlate;
@@ -23,6 +24,7 @@ impl FullPlate {
     /// A full plate that has done nothing.
     pub fn new() -> FullPlate
         ensures counts { plate_sheet result.plate ≡ replicate 7 0 }
+        ensures full { result.plate.reserve ≡ paper_limit }
         ensures at_work { result.plate.stopped ≡ false }
     {
         let mut plate = Plate::new();
@@ -55,7 +57,7 @@ impl Mechanism for FullPlate {
 
     ghost grants = { λ p offered grant. grant ≡ 0 };
 
-    ghost stays = { λ p q. plate_latest q.plate ≡ plate_latest p.plate };
+    ghost stays = { Stays };
 
     ghost laws = { lawful };
 
